@@ -13,13 +13,11 @@ pub use Rattle.rly_disk.specs.Trace.{images_after, images_at_end, images_within,
 pub use Rattle.rly_disk.specs.Trace.{IsFailed, IsMade, Leads, Makes, OnlyReads, Read, seen_after, seen_at_end, Sync, Write}
 pub use Rattle.rly_disk.specs.declared.record.Event.{Event}
 pub use Rattle.rly_disk.specs.declared.record.Event.TheVariants.{Synced, Written}
-pub use Rattle.std.proofs.Common.{[], add-one, ap, append_assoc, arith, Bool, drop, false, get_or, Global, inl, inr, le-leb, length, length-append, length-drop}
-pub use Rattle.std.proofs.Common.{length-take, List, map, refl, rules, slice_range, suc, take, take-append-drop, true, Vec, zero, ℕ, ⊎_elim, ◌++◌, ◌+◌, ◌-◌}
-pub use Rattle.std.proofs.Common.{◌<◌, ◌^◌, ◌↔◌, ◌∙◌, ◌∷◌, ◌≡◌, ◌≤◌, ◌⊎◌}
-pub use Rattle.std.proofs.lemmas.Bool.{and_from, and_parts, cases_eq, cases_lt, false≢true, leb-true, or_parts}
+pub use Rattle.std.proofs.Common.{[], add-one, ap, append-nil, append_assoc, arith, Bool, drop, Err, ext_get_or, false, get_or, Global, if◌then◌else◌, inl, inr}
+pub use Rattle.std.proofs.Common.{is_ok, IsErr, length, length-append, length-drop, length-take, List, map, Ok, OnErr, OnOk, refl, Result, rules, slice_range}
+pub use Rattle.std.proofs.Common.{suc, take, take-append-drop, take_all, true, Vec, zero, ℕ, ⊎_elim, ◌++◌, ◌+◌, ◌-◌, ◌<◌, ◌^◌, ◌↔◌, ◌∙◌, ◌∷◌, ◌≡◌, ◌≤◌, ◌⊎◌}
+pub use Rattle.std.proofs.lemmas.Bool.{and_from, and_parts, cases_eq, cases_lt, false≢true, le-leb, leb-true}
 pub use Rattle.std.proofs.lemmas.Bool.Decides.{nat_tests}
-pub use Rattle.std.proofs.lemmas.List.{append-nil, drop-append-le, drop_all, ext_get_or, length_push, nil_from_length, places, take-append-le, take_all}
-pub use Rattle.std.proofs.lemmas.List.{take_min, take_rest, with_items_is}
+pub use Rattle.std.proofs.lemmas.List.{drop-append-le, drop_all, length_push, nil_from_length, places, take-append-le, take_min, take_rest, with_items_is}
 pub use Rattle.std.proofs.lemmas.List.Folds.{list_all-append, list_any-append}
 pub use Rattle.std.specs.List.{list_all}
-pub use Rattle.std.specs.Prelude.{Err, if◌then◌else◌, is_ok, IsErr, min, not, Ok, OnErr, OnOk, Result, ◌&&◌, ◌==◌}

@@ -5,7 +5,5 @@ pub mod Making
 pub mod Overwritten
 pub mod Ranges
 mod RecordLemmas
-mod Steps
-pub mod TraceRanges
 pub mod Traces
 mod Watching

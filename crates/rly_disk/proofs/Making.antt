@@ -1,9 +1,10 @@
 -- What follows where a row of calls was made.
-use Rattle.rly_disk.proofs.Common.{[], add-one, append-nil, are_quiet, are_reads, arith, Bool, cases_eq, Consistent, count_of, DeviceEvent, DiskState}
-use Rattle.rly_disk.proofs.Common.{each_below, Err, FailedRead, false, false≢true, HasFailed, images_after, images_at_end, images_within, inl, inr}
-use Rattle.rly_disk.proofs.Common.{is_failed_call, is_ok, is_spent, is_sync_call, IsErr, IsFailed, IsMade, IsTorn, IsWritten, Later, LeavesOnly, length}
-use Rattle.rly_disk.proofs.Common.{length-take, List, Makes, nat_tests, NothingNew, Ok, OnlyReads, overwritten_within, Read, refl, Result, SameOutside}
-use Rattle.rly_disk.proofs.Common.{seen_after, seen_at_end, Settled, suc, Sync, true, wider, Write, zero, ℕ, ⊎_elim, ◌++◌, ◌+◌, ◌<◌, ◌∙◌, ◌∷◌, ◌≡◌, ◌≤◌, ◌⊎◌}
+use Rattle.rly_disk.proofs.Common.{[], add-one, AllWrites, append-nil, are_quiet, are_reads, arith, Bool, cases_eq, Consistent, count_of, DeviceEvent}
+use Rattle.rly_disk.proofs.Common.{DiskState, each_below, Err, FailedRead, FailedWrite, false, false≢true, HasFailed, images_after, images_at_end}
+use Rattle.rly_disk.proofs.Common.{images_within, inl, inr, is_failed_call, is_ok, is_spent, is_sync_call, IsErr, IsFailed, IsMade, IsTorn, IsWritten, Later}
+use Rattle.rly_disk.proofs.Common.{LeavesOnly, length, length-take, List, Makes, nat_tests, NothingNew, Ok, OnlyReads, overwritten, overwritten_within, Read}
+use Rattle.rly_disk.proofs.Common.{refl, Result, SameOutside, seen_after, seen_at_end, Settled, suc, Sync, take, true, wider, Write, zero, ℕ, ⊎_elim, ◌++◌, ◌+◌}
+use Rattle.rly_disk.proofs.Common.{◌<◌, ◌∙◌, ◌∷◌, ◌≡◌, ◌≤◌, ◌⊎◌}
 use Rattle.rly_disk.proofs.Traces.{within_start, within_grows, within_joined, makes_front, makes_joined}
 
 -- ---- the events of a row against its calls
@@ -87,10 +88,6 @@ quiet_within (call ∷ calls) quiet seen I here c image =
 pub reads_sound : (calls : List DeviceEvent) → are_reads calls ≡ true → count_of is_failed_call calls ≡ 0
 reads_sound [] reads = refl
 reads_sound (call ∷ calls) reads = let more = reads_sound calls in grind (arith, more)
-
-pub reads_front : (done rest : List DeviceEvent) → are_reads (done ++ rest) ≡ true → (are_reads done ≡ true) × (are_reads rest ≡ true)
-reads_front [] rest reads = (refl, reads)
-reads_front (call ∷ done) rest reads = let more = reads_front done rest in grind (arith, more)
 
 pub reads_joined : (first second : List DeviceEvent) → are_reads first ≡ true → are_reads second ≡ true → are_reads (first ++ second) ≡ true
 reads_joined [] second one two = two
@@ -203,3 +200,45 @@ pub synced_then : (first second : List DeviceEvent) → AreSynced first → (see
     → images_within first seen I c ⊎ images_within second (seen_at_end first seen) (λ d. d ≡ seen_at_end first seen) c
 synced_then first second synced seen I c image =
     let past = within_grows second (seen_at_end first seen) _ _ (synced seen I) c in grind (arith, past, (within_joined first second seen I c).0 image)
+
+-- ---- what a row leaves whose writes keep what is said of an image
+
+module _ (R : List ℕ → Type 0) (IsRange : ℕ → ℕ → Type 0) (fits : (place n : ℕ) (c : List ℕ) → IsRange place n → R c → place + n ≤ length c)
+    (keeps : (place n : ℕ) (c d : List ℕ) → IsRange place n → R c → SameOutside place n c d → R d) where
+  -- n bytes at a place are overwritten by no more than n
+  written_kept : (place n : ℕ) (bytes seen : List ℕ) (I : List ℕ → Type 0) → length bytes ≤ n → IsRange place n → R seen → ((c : List ℕ) → I c → R c)
+      → R (overwritten place bytes seen) × ((c : List ℕ) → IsTorn place n I c → R c)
+  written_kept place n bytes seen I short range here images =
+      let over = overwritten_within place n bytes seen short (fits place n seen range here) in
+      (keeps place n seen _ range here over, λ c torn. keeps place n torn.0 c range (images torn.0 torn.1) torn.2)
+
+  pub kept : (calls : List DeviceEvent) (seen : List ℕ) (I : List ℕ → Type 0) → AllWrites IsRange calls → R seen → ((c : List ℕ) → I c → R c)
+      → (c : List ℕ) → images_within calls seen I c → R c
+  kept [] seen I all here images c image = images c image
+  kept (Write place bytes ∷ calls) seen I all here images c image =
+      let after = written_kept place (length bytes) bytes seen I (omega arith) all.0 here images in
+      ⊎_elim (images c) (kept calls _ (IsTorn place (length bytes) I) all.1 after.0 after.1 c) image
+  kept (FailedWrite place bytes left ∷ calls) seen I all here images c image =
+      let after = written_kept place (length bytes) (take (length bytes) left) seen I (omega (arith, length-take (length bytes) left)) all.0 here images in
+      ⊎_elim (images c) (kept calls _ (IsTorn place (length bytes) I) all.1 after.0 after.1 c) image
+  kept (Sync ∷ calls) seen I all here images c image = ⊎_elim (images c) (kept calls seen (λ d. d ≡ seen) all here (λ d is. rw is here) c) image
+  kept (event ∷ calls) seen I all here images c image = ⊎_elim (images c) (kept calls seen I all here images c) image
+
+  -- a crash at any moment of the row
+  pub leaves_kept : {D : Type 0} (state : D → DiskState) {a b : D} {calls : List DeviceEvent} {whole : Bool} → Makes state calls whole a b → Settled (state a)
+      → AllWrites IsRange calls → R (state a).seen → LeavesOnly (state a) (state b) R
+  leaves_kept state {a} {b} {calls} made settled all here =
+      makes_leaves state R made settled (kept calls (state a).seen (λ d. d ≡ (state a).seen) all here (λ d is. rw is here))
+
+-- two rows
+pub all_joined : (IsRange : ℕ → ℕ → Type 0) (first second : List DeviceEvent) → AllWrites IsRange first → AllWrites IsRange second
+    → AllWrites IsRange (first ++ second)
+all_joined IsRange [] second one two = two
+all_joined IsRange (call ∷ first) second one two = let more = all_joined IsRange first second in grind (arith, more)
+
+-- the calls for each number below another
+pub each_all : (IsRange : ℕ → ℕ → Type 0) (calls : ℕ → List DeviceEvent) (n : ℕ) → ((t : ℕ) → t < n → AllWrites IsRange (calls t))
+    → AllWrites IsRange (each_below calls n)
+each_all IsRange calls zero all = tt
+each_all IsRange calls (suc n) all =
+    all_joined IsRange (each_below calls n) (calls n) (each_all IsRange calls n (λ t below. all t (omega (arith, below)))) (all n (omega arith))

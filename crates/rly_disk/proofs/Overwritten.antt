@@ -13,8 +13,7 @@ module _ (place : ℕ) (bytes old : List ℕ) (fits : place + length bytes ≤ l
 
 -- a write of no more bytes than a range has
 pub overwritten_within : (place n : ℕ) (bytes old : List ℕ) → length bytes ≤ n → place + n ≤ length old → SameOutside place n old (overwritten place bytes old)
-overwritten_within place n bytes old short room =
-    wider place n place (length bytes) (omega arith) (omega arith) (overwritten_outside place bytes old (omega arith))
+overwritten_within place n bytes old short room = wider _ n place (length bytes) (omega arith) (omega arith) (overwritten_outside place bytes old (omega arith))
 
 -- what lies in a range, written over the list from before
 pub written_over : {old new : List ℕ} (place n : ℕ) → place + n ≤ length old → SameOutside place n old new

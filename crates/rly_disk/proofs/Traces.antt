@@ -76,8 +76,7 @@ leads_nothing a = search (arith, inl)
 
 -- the calls up to one that failed, and those before one that wasn't counted
 cut_at : (spent : Bool) (done rest : List DeviceEvent) (call last : DeviceEvent) → IsFailed call last → IsCut spent (done ++ call ∷ rest) (done ++ last ∷ [])
-cut_at spent done rest call last failed =
-    inl (record { done = done; call = call; rest = rest; last = last; calls_are = refl; failed = failed; events_are = refl })
+cut_at _ done rest call last failed = inl (record { done = done; call = call; rest = rest; last = last; calls_are = refl; failed = failed; events_are = refl })
 
 cut_before : (spent : Bool) (done rest : List DeviceEvent) (call : DeviceEvent) → spent ≡ true → IsCut spent (done ++ call ∷ rest) done
 cut_before spent done rest call full = inr (full, record { call = call; rest = rest; calls_are = refl })
@@ -88,8 +87,7 @@ cut_front spent calls more events (inl f) = rw (f.calls_are, f.events_are, appen
 cut_front spent calls more events (inr s) = rw (s.1.calls_are, append_assoc) (cut_before spent events (s.1.rest ++ more) s.1.call s.0)
 
 pub cut_behind : (spent : Bool) (calls more events : List DeviceEvent) → IsCut spent more events → IsCut spent (calls ++ more) (calls ++ events)
-cut_behind spent calls more events (inl f) =
-    rw (f.calls_are, f.events_are) (simp (← append_assoc) (cut_at spent (calls ++ f.done) f.rest f.call f.last f.failed))
+cut_behind spent calls more _ (inl f) = rw (f.calls_are, f.events_are) (simp (← append_assoc) (cut_at spent (calls ++ f.done) f.rest f.call f.last f.failed))
 cut_behind spent calls more events (inr s) = rw (s.1.calls_are, ← append_assoc) (cut_before spent (calls ++ events) s.1.rest s.1.call s.0)
 
 -- one event

@@ -17,8 +17,7 @@ module _ {D : Type 0} (state : D → DiskState) (old new : Watched D) where
   -- one call of the disk in it, which is noted where it was counted
   pub watched_tells : {call : DeviceEvent} {whole : Bool} {inner : D} → Makes state (call ∷ []) whole old.inner inner → new.inner ≡ inner
       → ((state old.inner).calls < (state inner).calls → length (told_by old) < most_of old
-      → told_by new ≡ told_by old ++ record (told_of call) { failed = if whole then false else true } ∷ [])
-      → ((state inner).calls ≤ (state old.inner).calls → told_by new ≡ told_by old)
-      → record (told_of call) { failed = false } ≡ told_of call → Tells state old new
+      → told_by new ≡ told_by old ++ record (told_of call) { failed = if whole then false else true } ∷ []) → ((state inner).calls ≤ (state old.inner).calls
+      → told_by new ≡ told_by old) → record (told_of call) { failed = false } ≡ told_of call → Tells state old new
   watched_tells made inside noted same sound room =
       (made.events, rw inside made.leads, grind (arith, told_row (made_row made) sound, noted, same, append-nil, made.leads.calls))

@@ -1,14 +1,26 @@
 -- Of the calls of a round: how often they sync; that of those of one that goes on none fails but reads; and what tells that a read failed.
-use Rattle.std.proofs.Common.{◌≡◌, ◌≤◌, ◌+◌, ◌++◌, ◌∷◌, [], ℕ, Bool, true, false, List, arith, refl}
-use Rattle.rly_journal.proofs.Common.{all_are_reads, AllByRecursion, are_reads, AreReads, AreTried, Commands, count_joined, DeviceEvent, DiskState, drawing_for}
-use Rattle.rly_journal.proofs.Common.{head_spelled, is_spent, logging, Makes, makes_syncs, MakesFront, None, OnlyReadsFailed, Option, payloads_of, reads_sound}
-use Rattle.rly_journal.proofs.Common.{Renewal, renewing, rounding, row_tried, segment_place, Some, stored_form, stored_length, Tail, Tries, Try}
-use Rattle.std.specs.Prelude.{slice_index_or}
-use Rattle.rly_disk.specs.Trace.{count_of, is_failed_call, is_failed_read, is_sync_call}
-use Rattle.rly_disk.proofs.Making.{Done, Failed, Row, row_of}
-use Rattle.rly_fetching.proofs.TriedReads.{tried_syncs}
-use Rattle.rly_disk.proofs.Traces.{one_if}
-use Rattle.rly_segment.proofs.Replacing.{replacing_writes}
+use Rattle.rly_journal.proofs.Common.{[], all_are_reads, AllByRecursion, append-nil, are_reads, AreReads, AreTried, arith, Bool, Commands, count_joined}
+use Rattle.rly_journal.proofs.Common.{count_of, cut_behind, DeviceEvent, DiskState, drawing_for, false, head_spelled, heading, is_failed_call, is_failed_read}
+use Rattle.rly_journal.proofs.Common.{is_spent, is_sync_call, List, logging, Makes, MakesFront, None, one_if, OnlyReadsFailed, Option, payloads_of, refl}
+use Rattle.rly_journal.proofs.Common.{Renewal, renewing, replacing_writes, rounding, row_tried, segment_place, slice_index_or, Some, stored_form, stored_length}
+use Rattle.rly_journal.proofs.Common.{Tail, tried_syncs, Tries, tries_joined, true, Try, unheaded, ℕ, ◌++◌, ◌+◌, ◌∷◌, ◌≡◌, ◌≤◌}
+use Rattle.rly_disk.proofs.Making.{Done, Failed, makes_syncs, reads_sound, Row, row_of}
+use Rattle.rly_fetching.specs.Trials.{row_of as try_of}
+
+-- ---- a row of calls that was made whole, and another one after it
+
+module _ {D : Type 0} (state : D → DiskState) {a b : D} where
+  pub two_tried : {m : D} (first second : List DeviceEvent) (whole : Bool) → Makes state first true a m → Makes state second whole m b
+      → Tries state (try_of first true ∷ try_of second whole ∷ []) a b
+  two_tried first second whole one two = tries_joined state _ _ (row_tried state first true one) (row_tried state second whole two)
+
+  -- both as one row
+  pub unheaded_made : (tail : Tail) (r : Renewal) → Tries state (unheaded tail r) a b → Makes state (renewing tail r) false a b
+  unheaded_made tail r tries =
+      let u = tries.tried.4 in
+      let all : tries.events ≡ drawing_for tail r ++ u.0 = grind (arith, tries.tried.2, tries.tried.3, u.2, u.4, append-nil u.0) in
+      let made = rw (← all) at (cut_behind (is_spent (state b)) (drawing_for tail r) (heading tail r) u.0 u.3) in
+      search tries
 
 -- ---- rows of reads
 
@@ -61,10 +73,9 @@ logging_sound gate (command ∷ commands) = omega arith
 
 renewing_sound : (tail : Tail) (r : Renewal) → AreSound 3 (renewing tail r)
 renewing_sound tail r =
-    let reads = drawing_reads tail r in
     let text : List ℕ = head_spelled stored_length stored_form (tail.generation + 1) r.copy ++ 0 ∷ [] in
     let head = replacing_writes (segment_place tail.geometry r.target) (slice_index_or tail.closed r.target false) text in
-    omega (arith, head, reads_sync (drawing_for tail r) reads, reads_sound (drawing_for tail r) reads, count_joined)
+    omega (arith, head, reads_sync (drawing_for tail r) (drawing_reads tail r), reads_sound (drawing_for tail r) (drawing_reads tail r), count_joined)
 
 -- ---- on a disk
 
@@ -85,12 +96,9 @@ module _ {D : Type 0} (state : D → DiskState) {a b : D} where
 
   -- where the victim's payloads were read, and nothing else was done
   module _ (tail : Tail) (r : Renewal) {whole : Bool} (made : MakesFront state (drawing_for tail r) whole a b) where
-    front : are_reads made.front ≡ true
-    front = reads_front made.front made.rest (rw made.calls_are at (drawing_reads tail r))
-
-    pub drawn_counts : OnlyReadsFailed (state a) (state b) × ((state b).syncs ≤ (state a).syncs)
+    pub drawn_counts : OnlyReadsFailed (state a) (state b) × ((state b).syncs ≤ (state a).syncs + 3)
     drawn_counts =
         let tries = row_tried state made.front whole made.makes in
         let rows : List Try = record { calls = made.front; whole = whole } ∷ [] in
-        let reads : AreReads rows = (front, tt) in
+        let reads : AreReads rows = (reads_front made.front made.rest (rw made.calls_are at (drawing_reads tail r)), tt) in
         (tried_alone rows tries (reads_rows rows reads), omega (arith, tried_syncs state rows tries reads))

@@ -1,13 +1,11 @@
 -- Calls that are evaluated one after the other.
-use Rattle.std.proofs.Common.{◌≡◌, ◌+◌, ◌-◌, ◌≤◌, ◌∷◌, ◌++◌, [], ◌∙◌, ℕ, true, List, length, arith, ap, refl, sym, inl, inr, append_assoc, length-append}
-use Rattle.rly_journal.proofs.Common.{accepted_push, append-nil, AreOutcomes, Call, Commands, empty_group, fold, fold_push, Geometry, GroupState, holds_command}
-use Rattle.rly_journal.proofs.Common.{if◌then◌else◌, IndexState, IsAlike, IsDue, IsEvaluated, IsGrouping, IsOutcomeOf, or_left, or_right, Outcome, placed_group}
-use Rattle.rly_journal.proofs.Common.{segment_place, State, Stored, stored_length, taken_by, taken_of, zip}
+use Rattle.rly_journal.proofs.Common.{[], accepted_push, ap, append-nil, append_assoc, AreOutcomes, arith, Call, Commands, empty_group, fold, fold_push}
+use Rattle.rly_journal.proofs.Common.{Geometry, GroupState, holds_command, holds_more, holds_none, if◌then◌else◌, IndexState, inl, inr, is_command, IsAlike}
+use Rattle.rly_journal.proofs.Common.{IsDue, IsEvaluated, IsGrouping, IsOutcomeOf, IsTakenOrLeft, length, length-append, List, or_left, or_right, Outcome}
+use Rattle.rly_journal.proofs.Common.{placed_group, placed_told, refl, segment_place, State, Stored, stored_length, sym, taken_by, taken_of, true, zip, ℕ, ◌++◌}
+use Rattle.rly_journal.proofs.Common.{◌+◌, ◌-◌, ◌∙◌, ◌∷◌, ◌≡◌, ◌≤◌}
 use Rattle.std.proofs.lemmas.List.Folds.{list_any-append}
-use Rattle.rly_grouping.proofs.Records.{holds_more, holds_none, placed_told}
-use Rattle.rly_journal.specs.Journal.{is_command}
 use Rattle.rly_journal.proofs.Redone.{alike_commands}
-use Rattle.rly_journal.specs.HelpersOutcomes.{IsTakenOrLeft}
 
 -- ---- one call more
 
@@ -35,8 +33,7 @@ pub few_taken : (calls : List Call) (outcomes : List Outcome)
 few_taken (call ∷ calls) (outcome ∷ outcomes) =
     let one : length (taken_by call outcome) ≤ (if is_command call.ask then 1 else 0) = grind arith in
     let rest = few_taken calls outcomes in
-    let both = length-append (taken_by call outcome) (taken_of (zip calls outcomes)) in
-    grind (arith, or_left, or_right)
+    let both = length-append (taken_by call outcome) (taken_of (zip calls outcomes)) in grind (arith, or_left, or_right)
 few_taken _ _ = (omega arith, λ some. absurd (omega (arith, some)))
 
 -- ---- the loop
@@ -51,8 +48,7 @@ pub record IsEvaluating (gate : ℕ) (old x : IndexState) (group : GroupState) (
 pub evaluating_none : {gate : ℕ} {x : IndexState} {group : GroupState} {log : Commands} {all rest : List Call} {outcomes : List Outcome} → rest ≡ all
     → group ≡ empty_group x.geometry.params.payload → x.used ≡ gate → outcomes ≡ [] → IsEvaluating gate x x group log log all rest outcomes
 evaluating_none {log = log} same empty used none =
-    let kept = sym (append-nil log) in
-    record { served = []; calls = sym same; evaluated = rw (none, empty) (search (inl, holds_none)) }
+    let kept = sym (append-nil log) in record { served = []; calls = sym same; evaluated = rw (none, empty) (search (inl, holds_none)) }
 
 module _ {gate : ℕ} {old x : IndexState} {group : GroupState} {before now : Commands} {all rest more : List Call} {call : Call} {outcomes : List Outcome}
     (so_far : IsEvaluating gate old x group before now all rest outcomes) (cut : rest ≡ call ∷ more) where
@@ -86,16 +82,14 @@ module _ {gate : ℕ} {old x : IndexState} {group : GroupState} {before now : Co
     each_push : (t : State (List ℕ)) → IsAlike old.spool.state t
         → AreOutcomes old.geometry gate old.spool.state t [] (zip (so_far.served ++ call ∷ []) (outcomes ++ outcome ∷ []))
     each_push t alike =
-        let u : State (List ℕ) = fold length t commands in
-        let here : IsAlike x.spool.state u = rw so_far.evaluated.state (alike_commands (gate + 7) commands old.spool.state t alike).0 in
-        let one = rw (so_far.evaluated.geometry, so_far.evaluated.state) at (came u here) in
+        let here : IsAlike x.spool.state (fold length t commands) = rw so_far.evaluated.state (alike_commands (gate + 7) commands old.spool.state t alike).0 in
+        let one = rw (so_far.evaluated.geometry, so_far.evaluated.state) at (came (fold length t commands) here) in
         rw (zip_push call outcome so_far.served outcomes so_far.evaluated.count)
         (outcomes_push old.geometry gate old.spool.state t [] (call, outcome) (zip so_far.served outcomes) (so_far.evaluated.each t alike) one)
 
     evaluated_push : IsEvaluated gate old y new before after (so_far.served ++ call ∷ []) (outcomes ++ outcome ∷ [])
     evaluated_push =
-        let e = so_far.evaluated in
-        elim done [
+        let e = so_far.evaluated in elim done [
           | inl some ↦
               let took = some.2 in
               let is : taken ≡ commands ++ some.0 ∷ [] = rw some.1 at named in
@@ -113,5 +107,4 @@ module _ {gate : ℕ} {old x : IndexState} {group : GroupState} {before now : Co
     pub evaluating_next : {next : List Outcome} → next ≡ outcomes ++ outcome ∷ [] → IsEvaluating gate old y new before after all more next
     evaluating_next pushed =
         let calls = so_far.calls ∙ ap (λ l. so_far.served ++ l) cut ∙ sym (append_assoc so_far.served (call ∷ []) more) in
-        let evaluated = rw (← pushed) at evaluated_push in
-        search
+        let evaluated = rw (← pushed) at evaluated_push in search

@@ -1,4 +1,3 @@
-pub mod Appended
 pub mod Common
 pub mod Counted
 pub mod Evaluating
@@ -6,13 +5,11 @@ pub mod Fetching
 pub mod Opening
 pub mod Outcomes
 pub mod Reading
-pub mod Readying
 pub mod Recovering
 pub mod Redone
 pub mod Refusing
 pub mod Renewed
 pub mod Rounded
-pub mod Rows
 pub mod Serving
 pub mod Tagging
 pub mod Telling

@@ -1,8 +1,8 @@
 -- What a journal shows once its device was opened.
-use Rattle.std.proofs.Common.{◌≡◌, ◌≤◌, ◌∙◌, [], ℕ, List, false, get_or, length, length-append, length-take, arith, sym, ap, refl}
-use Rattle.rly_journal.proofs.Common.{Commands, Consistent, device_length, DiskState, HoldsIndex, IndexState, IsAlike, IsAtEnd, IsDurable, IsLoggedFor}
-use Rattle.rly_journal.proofs.Common.{IsShaped, IsSoundJournal, length-replicate, map_state, maps_held, OnlyRead, payload_in, payloads_of, replicate, Settled}
-use Rattle.rly_journal.proofs.Common.{shown_in, shown_state, Stands, State, state_in, state_twice, Stored, stored_length, Tail, take_at, whole}
+use Rattle.rly_journal.proofs.Common.{[], ap, arith, Commands, Consistent, device_length, DiskState, false, get_or, HoldsIndex, IndexState, IsAlike, IsAtEnd}
+use Rattle.rly_journal.proofs.Common.{IsDurable, IsLoggedFor, IsShaped, IsSoundJournal, length, length-append, length-replicate, length-take, List, map_state}
+use Rattle.rly_journal.proofs.Common.{maps_held, OnlyRead, payload_in, payloads_of, refl, replicate, Settled, shown_in, shown_state, Stands, State, state_in}
+use Rattle.rly_journal.proofs.Common.{state_twice, Stored, stored_length, sym, Tail, take_at, whole, ℕ, ◌∙◌, ◌≡◌, ◌≤◌}
 
 -- a payload that is shown has its length on any image
 pub shown_length : (image : List ℕ) (p : Stored) → length (shown_in image p) ≡ stored_length p
@@ -27,10 +27,8 @@ module _ {tail : Tail} {x : IndexState} {disk : DiskState} (facts : disk.honest 
   pub shown_there : disk.honest → state_in disk.seen x.spool.state ≡ map_state (shown_in disk.seen) x.spool.state
   shown_there honest =
       let long : device_length tail.geometry ≤ length disk.seen = omega (arith, shaped.geometry.room, (facts honest).seen_size) in
-      let lies = (index_there tail x ends holds).index.there in
-      maps_held (payload_in disk.seen) (shown_in disk.seen) x.spool.state (λ k d lt.
-      let p = get_or (payloads_of x.spool.state) k d in
-      sym (shown_whole disk.seen p (whole disk.seen tail.geometry long p (lies k d lt))))
+      let lies = (index_there tail x ends holds).index.there in maps_held (payload_in disk.seen) (shown_in disk.seen) x.spool.state (λ k d lt.
+      let p = get_or (payloads_of x.spool.state) k d in sym (shown_whole disk.seen p (whole disk.seen tail.geometry long p (lies k d lt))))
 
   -- a journal that accepted nothing yet: its state from what only proofs read
   module _ {image : List ℕ} {s : State Stored} {commands : Commands} (is : image ≡ disk.seen) (same : s ≡ x.spool.state) (none : commands ≡ []) where
@@ -40,12 +38,10 @@ module _ {tail : Tail} {x : IndexState} {disk : DiskState} (facts : disk.honest 
         let alike = shown_alike disk.seen x.spool.state in
         let durable : disk.honest → IsDurable disk tail (map_state (shown_in disk.seen) x.spool.state) =
         λ honest. record { settled = settled honest; logged = rw (← shown_there honest) (logged honest).read } in
-        let tagged = λ (honest : disk.honest). (logged honest).tagged in
-        rw (is, same, none) (search shown_there)
+        let tagged = λ (honest : disk.honest). (logged honest).tagged in rw (is, same, none) (search shown_there)
 
     -- and so the device that was opened stands for it
     pub opened_stands : {old : DiskState} → OnlyRead old disk → old.honest → IsLoggedFor old.seen tail x → Stands old.seen (shown_state image s commands)
     opened_stands only honest logged =
-        let again = only.crash honest in
-        let read = logged.read in
+        let again = only.crash honest in let read = logged.read in
         rw (is, same, none) (read.x, read.stands, sym (shown_there again.honest) ∙ ap (λ (i : List ℕ). state_in i x.spool.state) again.seen ∙ read.state)

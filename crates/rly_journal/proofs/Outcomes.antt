@@ -1,23 +1,13 @@
 -- What came of one call, in a spool of places and in the one with bytes.
-use Rattle.std.proofs.Common.{◌≡◌, ◌⊎◌, ◌+◌, ◌<◌, ◌≤◌, ◌^◌, ◌∷◌, ◌++◌, [], ℕ, suc, true, false, List, length, arith, ap}
-use Rattle.rly_journal.proofs.Common.{AreReadsOf, Call, Command, Commands, device_length, group_body, GroupState, HasRecord, HoldsIndex, IndexState}
-use Rattle.rly_journal.proofs.Common.{is_accepted, IsAlike, IsBrought, IsGrouping, IsKnown, place_after, placed_alike, placed_at, placed_brought, record_length}
-use Rattle.rly_journal.proofs.Common.{record_of, record_place, Reply, same_reply, SeatId, segment_end, segment_within, State, step, Stored, stored_length}
-use Rattle.rly_journal.proofs.Common.{unaccepted}
+use Rattle.rly_journal.proofs.Common.{[], ap, AreReadsOf, arith, Call, Command, Commands, counted, device_length, false, frame_room, group_body, GroupState}
+use Rattle.rly_journal.proofs.Common.{HasRecord, holds_most, HoldsIndex, IndexState, is_accepted, IsAlike, IsBrought, IsGrouping, IsKnown, IsLeft, IsShort}
+use Rattle.rly_journal.proofs.Common.{IsTaken, IsToldOf, length, List, longest_record, MayWantRoom, NeedsRoom, next_place, not_due, place_after, placed_alike}
+use Rattle.rly_journal.proofs.Common.{placed_at, placed_brought, query_reply, real_query, real_step, record_length, record_length-short, record_of}
+use Rattle.rly_journal.proofs.Common.{record_place, Reply, same_reply, SeatId, segment_end, segment_within, Spool, State, step, Stored, stored_length, suc}
+use Rattle.rly_journal.proofs.Common.{true, unaccepted, ℕ, ◌++◌, ◌+◌, ◌<◌, ◌^◌, ◌∷◌, ◌≡◌, ◌≤◌, ◌⊎◌}
 use Rattle.std.proofs.Math.Nat.{mul-le-mul_left, mul-le-mul_right}
 use Rattle.rly_machine.specs.declared.command.Ask.TheVariants as ask
 use Rattle.rly_machine.specs.declared.command.Query.{Query}
-use Rattle.rly_machine.specs.Query.{query_reply}
-use Rattle.rly_machine.specs.State.{Spool}
-use Rattle.rly_machine.specs.Step.{NeedsRoom}
-use Rattle.rly_machine.proofs.RealReplies.{counted, real_query, real_step}
-use Rattle.rly_record.specs.Spelling.{IsShort, longest_record}
-use Rattle.rly_record.proofs.Bodies.{record_length-short}
-use Rattle.rly_grouping.specs.Groups.{frame_room}
-use Rattle.rly_grouping.proofs.Brought.{not_due}
-use Rattle.rly_grouping.proofs.Records.{holds_most, next_place}
-use Rattle.rly_journal.specs.HelpersOutcomes.{IsLeft, IsTaken, IsToldOf}
-use Rattle.rly_journal.specs.Rounds.{MayWantRoom}
 use Rattle.rly_journal.proofs.Redone.{IsStepped}
 
 -- ---- for which commands memory is wanted: in the spool with bytes they are commands that may want it
@@ -41,10 +31,9 @@ module _ {gate : ℕ} {x : IndexState} {group : GroupState} (grouping : IsGroupi
   -- the largest group finds room in the segment, and that ends where a place has 64 bits
   pub room_there : (gate + frame_room group.most ≤ segment_end x.geometry x.segment) × (segment_end x.geometry x.segment < 2 ^ 64)
   room_there =
-      let room = not_due x.geometry x.segment gate grouping.above grouping.ready in
       let within = segment_within x.geometry x.segment (device_length x.geometry) holds.layout holds.there in
       let wide = mul-le-mul_right x.geometry.length holds.layout.segments.1 in
-      (omega (arith, room, grouping.longest), omega (arith, within, wide, holds.layout.length))
+      (omega (arith, not_due x.geometry x.segment gate grouping.above grouping.ready, grouping.longest), omega (arith, within, wide, holds.layout.length))
 
   -- so a command that may be recorded finds its place
   module _ (command : Command (List ℕ)) (short : IsShort group.most command) where
@@ -53,9 +42,8 @@ module _ {gate : ℕ} {x : IndexState} {group : GroupState} (grouping : IsGroupi
     staged_brought =
         let less : suc (length grouping.commands) ≤ 64 = omega (arith, grouping.few) in
         let all = mul-le-mul_left (longest_record group.most) less in
-        let most = holds_most grouping.commands group grouping.holds in
         placed_brought x.geometry x.segment x.used (record_place gate group) command holds.there holds.from grouping.below
-        (omega (arith, room_there.0, all, most, record_length-short group.most command short))
+        (omega (arith, room_there.0, all, holds_most grouping.commands group grouping.holds, record_length-short group.most command short))
 
     pub place_small : gate + (5 + length (group_body group)) + record_length length command < 2 ^ 64
     place_small = omega (arith, room_there.1, staged_brought.to, place_after gate group)
@@ -72,10 +60,9 @@ query_known {query = query} {t = t} told counts unread = grind (arith, told, cou
 
 -- as the index has it, and as it is told
 pub command_outcome : {gate : ℕ} {command : Command (List ℕ)} {told : Reply} {x y : IndexState} {old new : GroupState} {before after : Commands} (call : Call)
-    {position : ℕ} → call.ask ≡ ask.Command command
-    → ((is_accepted told ≡ true) × IsTaken gate command x y old new before after) ⊎ ((is_accepted told ≡ false) × IsLeft x y old new before after)
-    → position ≡ y.spool.state.seq → (t : State (List ℕ)) → IsAlike x.spool.state t → IsToldOf command told t
-    → IsKnown call (record { seat = call.seat; number = call.number; reply = told; position = position }) t
+    {position : ℕ} → call.ask ≡ ask.Command command → ((is_accepted told ≡ true) × IsTaken gate command x y old new before after)
+    ⊎ ((is_accepted told ≡ false) × IsLeft x y old new before after) → position ≡ y.spool.state.seq → (t : State (List ℕ)) → IsAlike x.spool.state t
+    → IsToldOf command told t → IsKnown call (record { seat = call.seat; number = call.number; reply = told; position = position }) t
 command_outcome {gate} {command} {told} {x} {old = old} call {position} asks done counts t alike tells =
     let same = ap (λ (m : State ℕ). m.seq) alike in
     let one = counted stored_length x.spool.state (placed_at (record_place gate old) command) in

@@ -1,9 +1,8 @@
 -- What a journal keeps while payloads are read.
-use Rattle.std.proofs.Common.{◌≡◌, ◌∙◌, [], ◌∷◌, ℕ, List, Bool, true, ap, arith, false}
-use Rattle.rly_journal.proofs.Common.{all_reads, are_reads, AreReads, Consistent, DiskState, IndexState, IsAlike, IsAtEnd, IsDurable, IsKept, IsShaped}
-use Rattle.rly_journal.proofs.Common.{IsSoundJournal, IsTaggedIn, JournalState, LeavesOnly, OnlyRead, Option, Place, Reply, row_for, Stands, started_settled}
-use Rattle.rly_journal.proofs.Common.{State, Tail, Tries, tries_later, Wanted}
-use Rattle.rly_fetching.proofs.TriedReads.{tried_new, tried_settled}
+use Rattle.rly_journal.proofs.Common.{[], all_reads, ap, are_reads, AreReads, arith, Bool, Consistent, DiskState, false, IndexState, IsAlike, IsAtEnd}
+use Rattle.rly_journal.proofs.Common.{IsDurable, IsKept, IsShaped, IsSoundJournal, IsTaggedIn, JournalState, LeavesOnly, List, OnlyRead, Option, Place, Reply}
+use Rattle.rly_journal.proofs.Common.{row_for, Stands, started_settled, State, Tail, tried_new, tried_settled, Tries, tries_later, true, Wanted, ℕ, ◌∙◌, ◌∷◌}
+use Rattle.rly_journal.proofs.Common.{◌≡◌}
 
 -- what is asked of the device for one payload is a read, as it is of a round's Fetches
 pub row_read : (at : Option Place) (told : Reply) → are_reads (row_for at told).calls ≡ true
@@ -22,12 +21,11 @@ pub sound_read : {old new : DiskState} {tail : Tail} {x : IndexState} {s : State
 sound_read {old} {new} {tail} {x} {s} {broken = broken} only sound =
     let was : new.honest → old.honest = only.later.honest.0 in
     let same : new.honest → new.seen ≡ old.seen = λ honest. (only.crash (was honest)).seen in
-    let shaped : IsShaped new.size tail x = rw only.later.size sound.shaped in
     let bytes = λ (whole : broken ≡ false) (honest : new.honest). rw (← same honest) at ((sound.kept whole).bytes (was honest)) in
     let durable : broken ≡ false → new.honest → IsDurable new tail s = λ whole honest.
     let durable = sound.durable whole (was honest) in record { settled = only.settled durable.settled; logged = rw (same honest) durable.logged } in
     let tagged = λ (whole : broken ≡ false) (honest : new.honest). rw (← same honest) at (sound.tagged whole (was honest)) in
-    search (shaped, sound.alike, sound.ends, bytes, durable, tagged, sound.counted)
+    search (rw (← only.later.size) at sound.shaped, sound.alike, sound.ends, bytes, durable, tagged, sound.counted)
 
 -- a journal that isn't broken, by the index that only its proofs see
 pub record IsGoing {D : Type 0} (state : D → DiskState) (j : JournalState D) (x : IndexState) : Type 0 where

@@ -1,20 +1,18 @@
 -- What is read of a device, group by group, where payloads stay there.
-use Rattle.std.proofs.Common.{◌≡◌, ◌≤◌, ◌<◌, ◌+◌, ◌∷◌, [], ◌∙◌, ℕ, List, length, arith, sym, ap, refl, subst, inl, inr, true}
-use Rattle.rly_journal.proofs.Common.{accepted-more, AllAccepted, append-nil, before_quiet, body_of, broken_commands, Commands, Consistent, DiskState, first_of}
-use Rattle.rly_journal.proofs.Common.{fold, front_all, gate_after, gate_behind-more, gate_scan, gates_quiet, gathered_kept, Geometry, group_scan, groups-more}
-use Rattle.rly_journal.proofs.Common.{HasNewestHead, HaveBody, head_scanned, head_tail, head_unread, HoldsGroup, HoldsIndex, IndexState, IsAlike, IsAt}
-use Rattle.rly_journal.proofs.Common.{IsClosed, IsFull, IsGivenUp, IsHeadOf, IsLayout, IsReadHeader, IsReading, IsReadNewest, IsRecovered, IsRedone, IsRefused}
-use Rattle.rly_journal.proofs.Common.{IsReplayedFor, IsScanned, IsShaped, IsStanding, length-frame, Makes, MakesFront, Ok, only_made, OnlyRead, Option}
-use Rattle.rly_journal.proofs.Common.{params_fold, past_body, placed_group, Read, read_again, replayed-more, scan_broken, scanned_all, scanned_group}
-use Rattle.rly_journal.proofs.Common.{segment_end, segment_place, seq_fold, settled_stands, settled_state, Some, Standing, standing_once, State, state_in}
-use Rattle.rly_journal.proofs.Common.{state_spelled, Stored, stored_length, stored_spelled, Tail, tells, with_gate, with_group}
+use Rattle.rly_journal.proofs.Common.{[], accepted-more, AllAccepted, ap, append-nil, arith, before_quiet, body_of, broken_commands, Commands, Consistent}
+use Rattle.rly_journal.proofs.Common.{DiskState, EndsAt, first_of, fold, front_all, gate_after, gate_behind-more, gate_scan, gates_quiet, gathered_kept}
+use Rattle.rly_journal.proofs.Common.{Geometry, group_scan, groups-more, HaveBody, head_scanned, head_tail, head_unread, HoldsGroup, HoldsIndex, IndexState}
+use Rattle.rly_journal.proofs.Common.{inl, inr, IsAlike, IsAt, IsBroken, IsClosed, IsFull, IsGivenUp, IsHeadOf, IsLayout, IsReadHeader, IsReading, IsReadNewest}
+use Rattle.rly_journal.proofs.Common.{IsRecovered, IsRedone, IsRefused, IsReplayedFor, IsShaped, IsStanding, length, length-frame, List, Makes, MakesFront, Ok}
+use Rattle.rly_journal.proofs.Common.{only_made, OnlyRead, OpenFault, Option, params_fold, past_body, placed_group, Read, read_again, refl, replayed-more}
+use Rattle.rly_journal.proofs.Common.{scan_broken, scanned_all, scanned_group, segment_end, segment_place, seq_fold, settled_stands, settled_state, Some}
+use Rattle.rly_journal.proofs.Common.{Standing, standing_once, State, state_in, state_spelled, Stored, stored_length, stored_spelled, subst, sym, Tail, tells}
+use Rattle.rly_journal.proofs.Common.{true, with_gate, with_group, ℕ, ◌+◌, ◌<◌, ◌∙◌, ◌∷◌, ◌≡◌, ◌≤◌}
 use Rattle.rly_segment.specs.declared.generations.NewestHead.{NewestHead}
 use Rattle.rly_segment.specs.declared.heads.Head.{Head}
 use Rattle.rly_segment.specs.Calls.{head_reads}
 use Rattle.rly_segment.specs.PlacedHeads.{HoldsNonePlaced, HoldsPlaced, IsReadPlaced}
-use Rattle.rly_standing.specs.declared.open_fault.OpenFault.{OpenFault}
 use Rattle.rly_standing.specs.declared.open_fault.OpenFault.TheVariants.{Damaged, OutOfMemory}
-use Rattle.rly_standing.specs.Faults.{IsBroken}
 use Rattle.rly_journal.proofs.Opening.{index_there, shown_alike, shown_there}
 use Rattle.rly_journal.proofs.Redone.{alike_commands, placed_count}
 use Rattle.rly_journal.proofs.Tagging.{head_tagged, tagged_more}
@@ -27,17 +25,9 @@ pub shape_after : {size : ℕ} {tail : Tail} {x y : IndexState} (commands : Comm
     → IsShaped size (with_gate tail gate) y
 shape_after {tail = tail} {x} commands shaped accepted state gate on within full =
     let counted = seq_fold stored_length x.spool.state (placed_group tail.gate commands) accepted in
-    let same = ap (λ (m : State Stored). m.seq) state in
-    let seq = placed_count (tail.gate + 7) commands in
+    let same = ap (λ (m : State Stored). m.seq) state in let seq = placed_count (tail.gate + 7) commands in
     let params = ap (λ (m : State Stored). m.params) state ∙ params_fold stored_length x.spool.state (placed_group tail.gate commands) ∙ shaped.params in
     search arith
-
--- a head is the newest: from there on memory may be refused
-scanned_newest : {image : List ℕ} {x : Standing} → IsScanned image x → HasNewestHead image
-scanned_newest scanned =
-    let fits = rw scanned.geometry at scanned.fits in
-    let newest = rw scanned.geometry at scanned.newest in
-    search
 
 -- ---- the newest head
 
@@ -59,10 +49,8 @@ module _ {D : Type 0} {state : D → DiskState} (facts : (disk : D) → (state d
         → IsGivenUp state OutOfMemory start next
     head_starved body made = record {
       refused = λ honest.
-          let header = looked.header honest in
-          let fits = rw header.1 at header.2 in
-          let newest = rw header.1 at (looked.newest honest).0 in
-          search;
+          let header = looked.header honest in let fits = rw header.1 at header.2 in
+          let newest = rw header.1 at (looked.newest honest).0 in search;
       trace = head_unread g found.segment body looked.made made;
     }
 
@@ -86,30 +74,23 @@ module _ {D : Type 0} {state : D → DiskState} (facts : (disk : D) → (state d
         → Makes state (head_reads (segment_place g found.segment) body) true now next
         → IsReading state (head_tail g found.segment held.generation held.gate found.closed) x start next
     head_read held {x} head gate read spelled settled at made =
-        let s : State Stored = held.machine.state in
-        let seen : List ℕ = (state start).seen in
+        let s : State Stored = held.machine.state in let seen : List ℕ = (state start).seen in
         let tail : Tail = head_tail g found.segment held.generation held.gate found.closed in
         let z : Standing =
         record { geometry = g; segment = found.segment; generation = held.generation; form = held.form; head = s; checkpoint = state_in seen s; groups = [] } in
         let scanned = head_scanned tail _ gate looked.made (rw spelled at made) in
-        let params = ap (λ (m : State Stored). m.params) settled ∙ head.params in
-        let seq = ap (λ (m : State Stored). m.seq) settled in
+        let params = ap (λ (m : State Stored). m.params) settled ∙ head.params in let seq = ap (λ (m : State Stored). m.seq) settled in
         let shaped : IsShaped (state start).size tail x = search arith in
         record {
           shaped = rw scanned.2.leads.size shaped;
           ends = at;
           replayed = λ honest.
-              let header = looked.header honest in
-              let newest = looked.newest honest in
+              let header = looked.header honest in let newest = looked.newest honest in
               let holds = read_again (λ i. HoldsPlaced held.form i g found.segment held.generation s) only_looked read honest in
+              let ends : EndsAt tail z = record { geometry = refl; segment = refl; generation = refl; gate = gate } in
+              let is = ap (state_in seen) settled ∙ settled_stands held.form seen g found.segment held.generation s holds.head in
               record {
-                read = record {
-                  x = z;
-                  scanned = search;
-                  ends = record { geometry = refl; segment = refl; generation = refl; gate = gate };
-                  state = ap (state_in seen) settled ∙ settled_stands held.form seen g found.segment held.generation s holds.head;
-                  gates = newest.1;
-                };
+                read = record { x = z; scanned = search; ends = ends; state = is; gates = newest.1 };
                 tagged = rw settled (λ t other. head_tagged g found.segment t other held.form s (omega (arith, head.room)));
               };
           scanned = scanned;
@@ -123,27 +104,26 @@ module _ {D : Type 0} {state : D → DiskState} (facts : (disk : D) → (state d
 
     replayed_now : (state now).honest → IsReplayedFor (state now).seen tail x
     replayed_now honest =
-        let was = only_so_far.later.honest.0 honest in
-        rw (only_so_far.crash was).seen (so_far.replayed was)
+        let was = only_so_far.later.honest.0 honest in rw (only_so_far.crash was).seen (so_far.replayed was)
 
     -- reading ends before the group is made again
     pub given_up : {next : D} {why : OpenFault} → ((state now).honest → IsRefused (state now).seen why)
         → (n : ℕ) × MakesFront state (group_scan tail.gate n) (tells why) now next → IsGivenUp state why start next
-    given_up {why} refused cut = record {
-      refused = read_again (λ image. IsRefused image why) only_so_far refused;
-      trace = scan_broken so_far.scanned cut;
-    }
+    given_up {why} refused cut =
+        record { refused = read_again (λ image. IsRefused image why) only_so_far refused; trace = scan_broken so_far.scanned cut }
 
+    -- a head is the newest, so memory may be refused
     pub starved : {next : D} → (n : ℕ) × MakesFront state (group_scan tail.gate n) true now next → IsGivenUp state OutOfMemory start next
-    starved = given_up (λ honest. scanned_newest (replayed_now honest).read.scanned)
+    starved = given_up (λ honest.
+        let scanned = (replayed_now honest).read.scanned in
+        let fits = rw scanned.geometry at scanned.fits in let newest = rw scanned.geometry at scanned.newest in search)
 
     -- no group can stand there
     pub damaged : {next : D} → ((state now).honest → IsReplayedFor (state now).seen tail x → IsBroken (state now).seen tail.gate)
         → (n : ℕ) × MakesFront state (group_scan tail.gate n) true now next → IsGivenUp state (Damaged tail.gate) start next
     damaged broken = given_up (λ honest.
         let was = replayed_now honest in
-        let scanned = was.read.scanned in
-        (scanned.device, rw scanned.geometry at scanned.fits, inr (inr (broken honest was))))
+        let scanned = was.read.scanned in (scanned.device, rw scanned.geometry at scanned.fits, inr (inr (broken honest was))))
 
     -- the gate after what was read is closed, so that is all
     pub all_read : {next : D} → ((state now).honest → IsClosed (state now).seen tail.gate) → Makes state (Read tail.gate 1 ∷ []) true now next
@@ -152,8 +132,7 @@ module _ {D : Type 0} {state : D → DiskState} (facts : (disk : D) → (state d
       shaped = rw made.leads.size so_far.shaped;
       ends = so_far.ends;
       logged = λ honest.
-          let was = so_far.replayed honest in
-          let read = was.read in
+          let was = so_far.replayed honest in let read = was.read in
           let closed = read_again (λ image. IsClosed image tail.gate) only_so_far shut honest in
           let stands : IsStanding (state start).seen read.x = record { scanned = read.scanned; closed = rw read.ends.gate at closed } in
           record { read = search; tagged = λ y reads. rw (standing_once read.x y stands reads) at was.tagged };
@@ -173,10 +152,8 @@ module _ {D : Type 0} {state : D → DiskState} (facts : (disk : D) → (state d
           → AllAccepted stored_length x.spool.state (placed_group tail.gate commands) → ⊥)
           → Makes state (group_scan tail.gate (length body)) true now next → IsGivenUp state (Damaged tail.gate) start next
       unaccepted body held none made =
-          let broken = λ (honest : (state now).honest) (was : IsReplayedFor (state now).seen tail x).
-          broken_commands _ tail body _ was.read (held honest) (λ commands have spelled accepted.
-          none commands have spelled ((alike_commands (tail.gate + 7) commands _ _ (alike_now honest)).1.1 accepted)) in
-          damaged broken (_, front_all state made)
+          damaged (λ honest was. broken_commands _ tail body _ was.read (held honest) (λ commands have spelled accepted.
+          none commands have spelled ((alike_commands (tail.gate + 7) commands _ _ (alike_now honest)).1.1 accepted))) (_, front_all state made)
 
       module _ {y : IndexState} (commands : Commands) (have : HaveBody commands)
           (room : tail.gate + 6 + length (body_of commands) ≤ segment_end tail.geometry tail.segment)
@@ -187,10 +164,8 @@ module _ {D : Type 0} {state : D → DiskState} (facts : (disk : D) → (state d
             → IsReplayedFor (state now).seen (past_body tail (length (body_of commands))) y
         replayed_next honest was =
             let s : State Stored = x.spool.state in
-            let read = was.read in
-            let z : Standing = read.x in
-            let alike = alike_now honest in
-            let group = held honest in
+            let read = was.read in let z : Standing = read.x in
+            let alike = alike_now honest in let group = held honest in
             let accepted = rw read.state at ((alike_commands (tail.gate + 7) commands s _ alike).1.0 redone.accepted) in
             let there = rw (read.ends.gate, read.ends.geometry, read.ends.segment) at group in
             let kept =
@@ -201,9 +176,7 @@ module _ {D : Type 0} {state : D → DiskState} (facts : (disk : D) → (state d
               read = record {
                 x = with_group z commands;
                 scanned = search (groups-more, accepted-more);
-                ends =
-                    let gate = ap (λ n. n + 5 + length (body_of commands)) read.ends.gate ∙ sym (gate_behind-more (first_of z) z.groups commands) in
-                    search;
+                ends = let gate = ap (λ n. n + 5 + length (body_of commands)) read.ends.gate ∙ sym (gate_behind-more (first_of z) z.groups commands) in search;
                 state = grind (arith, redone.state, kept.bytes honest, read.state, replayed-more z.checkpoint z.groups commands);
                 gates = read.gates;
               };
@@ -217,8 +190,7 @@ module _ {D : Type 0} {state : D → DiskState} (facts : (disk : D) → (state d
         read_on made =
             let gate : ℕ = tail.gate + 5 + length (body_of commands) in
             record {
-              shaped = rw made.leads.size
-                  (shape_after commands so_far.shaped redone.accepted redone.state gate (omega arith) (omega (arith, room))
+              shaped = rw made.leads.size (shape_after commands so_far.shaped redone.accepted redone.state gate (omega arith) (omega (arith, room))
                   (λ full. omega (arith, so_far.shaped.generation, have.0)));
               ends = rw (so_far.ends.geometry, so_far.ends.segment) at redone.at;
               replayed = read_again (λ image. IsReplayedFor image (past_body tail (length (body_of commands))) y) only_so_far

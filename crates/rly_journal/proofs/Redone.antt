@@ -1,10 +1,9 @@
 -- Commands of a group that are made again on an index, with their payloads by place.
-use Rattle.std.proofs.Common.{◌≡◌, ◌↔◌, ◌⊎◌, ◌≤◌, ◌+◌, ◌++◌, ◌∷◌, [], ◌∙◌, ℕ, true, false, List, length, arith, sym, ap, refl, inl}
-use Rattle.std.proofs.Common.{length-append, append_assoc}
-use Rattle.rly_journal.proofs.Common.{accepted_parts, accepted_push, alike_after, AllAccepted, AllByRecursion, Command, Commands, false≢true, flat_map}
-use Rattle.rly_journal.proofs.Common.{flat_map_more, fold, fold_push, HasRecord, HoldsIndex, IndexState, is_accepted, IsAlike, IsAt, IsBrought, placed_alike}
-use Rattle.rly_journal.proofs.Common.{placed_at, placed_brought, placed_from, placed_group, placed_joined, record_length, record_of, records_size, Reply}
-use Rattle.rly_journal.proofs.Common.{same_reply, segment_end, State, step, Stored, stored_length, used_after}
+use Rattle.rly_journal.proofs.Common.{[], accepted_parts, accepted_push, alike_after, AllAccepted, AllByRecursion, ap, append_assoc, arith, Command, Commands}
+use Rattle.rly_journal.proofs.Common.{false, false≢true, flat_map, flat_map_more, fold, fold_push, HasRecord, HoldsIndex, IndexState, inl, is_accepted, IsAlike}
+use Rattle.rly_journal.proofs.Common.{IsAt, IsBrought, length, length-append, List, placed_alike, placed_at, placed_brought, placed_from, placed_group}
+use Rattle.rly_journal.proofs.Common.{placed_joined, record_length, record_of, records_size, refl, Reply, same_reply, segment_end, State, step, Stored}
+use Rattle.rly_journal.proofs.Common.{stored_length, sym, true, used_after, ℕ, ◌++◌, ◌+◌, ◌↔◌, ◌∙◌, ◌∷◌, ◌≡◌, ◌≤◌, ◌⊎◌}
 use Rattle.rly_record.proofs.Records.{length-record_of}
 
 -- ---- places
@@ -21,8 +20,7 @@ pub alike_commands : (place : ℕ) (commands : Commands) (s : State Stored) (t :
     × (AllAccepted stored_length s (placed_from place commands) ↔ AllAccepted length t commands)
 alike_commands place [] s t alike = (alike, ((λ all. all), λ all. all))
 alike_commands place (command ∷ commands) s t alike =
-    let same = placed_alike place command in
-    let one = same_reply s t (placed_at place command) command alike same in
+    let same = placed_alike place command in let one = same_reply s t (placed_at place command) command alike same in
     let rest = alike_commands (place + record_length length command) commands (step stored_length s (placed_at place command)).0 (step length t command).0
     (alike_after s t (placed_at place command) command alike same) in
     (rest.0, ((λ all. (rw one at all.0, rest.1.0 all.1)), λ all. (rw one all.0, rest.1.1 all.1)))
@@ -37,9 +35,8 @@ pub record IsStepped (x y : IndexState) (placed : Command Stored) (told : Reply)
 
 -- so it did once there was room for it
 pub stepped : {x r y : IndexState} {placed command : Command Stored} {told : Reply} {next : ℕ} → r.spool.state ≡ x.spool.state
-    → IsAt x.geometry x.segment x.used r → command ≡ placed
-    → y.spool.state ≡ (step stored_length r.spool.state command).0 → told ≡ (step stored_length r.spool.state command).1
-    → IsAt r.geometry r.segment (used_after r.used next told) y → IsStepped x y placed told next
+    → IsAt x.geometry x.segment x.used r → command ≡ placed → y.spool.state ≡ (step stored_length r.spool.state command).0
+    → told ≡ (step stored_length r.spool.state command).1 → IsAt r.geometry r.segment (used_after r.used next told) y → IsStepped x y placed told next
 stepped same before is state says after =
     record { state = rw (← same, ← is) state; reply = rw (← same, ← is) says; at = rw (← before.geometry, ← before.segment, ← before.used) after }
 
@@ -74,8 +71,7 @@ module _ {old x : IndexState} {gate at : ℕ} {all rest more : Commands} {comman
   pub redoing_next : {y : IndexState} {told : Reply} {next : ℕ} → IsStepped x y (placed_at at command) told next → is_accepted told ≡ true
       → next ≡ at + record_length length command → IsRedoing old gate all more next y
   redoing_next one accepts is =
-      let done : Commands = so_far.done in
-      let s : State Stored = old.spool.state in
+      let done : Commands = so_far.done in let s : State Stored = old.spool.state in
       let placed : Command Stored = placed_at at command in
       let row : placed_group gate (done ++ command ∷ []) ≡ placed_group gate done ++ placed ∷ [] =
       rw (so_far.place) (placed_joined (gate + 7) done (command ∷ [])) in
@@ -97,8 +93,7 @@ module _ {old x : IndexState} {gate at : ℕ} {all rest more : Commands} {comman
   pub redoing_refused : {y : IndexState} {told : Reply} {next : ℕ} → IsStepped x y (placed_at at command) told next → is_accepted told ≡ false
       → AllAccepted stored_length old.spool.state (placed_group gate all) → ⊥
   redoing_refused one leaves accepted =
-      let done : Commands = so_far.done in
-      let s : State Stored = old.spool.state in
+      let done : Commands = so_far.done in let s : State Stored = old.spool.state in
       let row : placed_group gate all ≡ placed_group gate done ++ placed_from at (command ∷ more) =
       rw (so_far.all_of, cut, so_far.place) (placed_joined (gate + 7) done (command ∷ more)) in
       let parts = accepted_parts stored_length s (placed_group gate done) (placed_from at (command ∷ more)) (rw row at accepted) in

@@ -1,9 +1,6 @@
 -- An image that a check refuses stands for no state.
-use Rattle.std.proofs.Common.{ℕ, List}
-use Rattle.rly_journal.proofs.Common.{IsRefused, Stands, State}
-use Rattle.rly_standing.specs.declared.open_fault.OpenFault.{OpenFault}
+use Rattle.rly_journal.proofs.Common.{IsOfImage, IsRefused, List, OpenFault, Stands, State, ℕ}
 use Rattle.rly_standing.specs.declared.open_fault.OpenFault.TheVariants.{NotADevice, BadGeometry, Damaged}
-use Rattle.rly_standing.specs.Faults.{IsOfImage}
 use Rattle.rly_standing.proofs.Refusing.{not_damaged}
 
 pub refused_stands_for_none : (image : List ℕ) (fault : OpenFault) → IsRefused image fault → IsOfImage fault → (s : State (List ℕ)) → Stands image s → ⊥

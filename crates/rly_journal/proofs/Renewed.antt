@@ -1,46 +1,40 @@
 -- The next segment is opened with a head that holds the copy that was drawn: what was chosen and drawn, how it is told, and what its
 -- calls leave, at their end and at any moment of them.
-use Rattle.std.proofs.Common.{◌≡◌, ◌≤◌, ◌<◌, ◌+◌, ◌∙◌, ℕ, List, length, arith, sym, ap, refl, true, false, ◌⊎◌, ◌++◌, ◌∷◌, [], length-append, inl, inr, ⊎_elim}
-use Rattle.rly_journal.proofs.Common.{All, are_reads, blank, Consistent, device_length, DeviceEvent, DiskState, drawing_for, drawn_state, Geometry}
-use Rattle.rly_journal.proofs.Common.{head_spelled, heading, IndexState, Inline, IsDurable, IsFull, IsHeadOf, IsLayout, IsLogged, IsRenewal, IsSameButForBytes}
-use Rattle.rly_journal.proofs.Common.{IsShaped, IsStanding, IsTaggedIn, JournalState, length-replicate, LiesThere, maps_held, maps_same, MayMove}
-use Rattle.rly_journal.proofs.Common.{moved_state, overwritten, payloads_of, Place, Placed, Renewal, renewed, renewing, SameOutside, Second, segment_place}
-use Rattle.rly_journal.proofs.Common.{segment_within, shown_in, sound_alike, Standing, standing_once, Stands, StandsAt, State, state_spelled, state_twice}
-use Rattle.rly_journal.proofs.Common.{Stored, stored_form, stored_length, Tail, unread, whole}
-use Rattle.std.proofs.lemmas.List.{get_or-set_other, get_or-set_same}
-use Rattle.std.proofs.lemmas.Bool.{cases_eq}
-use Rattle.rly_disk.specs.Trace.{images_within, seen_at_end}
-use Rattle.rly_disk.proofs.Ranges.{wider}
+use Rattle.rly_journal.proofs.Common.{[], All, ap, arith, blank, Bool, bytes_at, Call, cases_eq, Consistent, device_length, DiskState, drawing_for, drawn}
+use Rattle.rly_journal.proofs.Common.{drawn_state, end_of_opening, Err, false, Geometry, get_or-set_other, get_or-set_same, HasRoomFor, head_spelled, heading}
+use Rattle.rly_journal.proofs.Common.{holds_command, image_of_opening, IndexState, inl, Inline, inr, IsAlike, IsAtEnd, IsDueFor, IsDurable, IsFull, IsHeadOf}
+use Rattle.rly_journal.proofs.Common.{IsKept, IsLayout, IsLogged, IsPlaced, IsReadied, IsReady, IsRenewal, IsSameButForBytes, IsShaped, IsSoundJournal}
+use Rattle.rly_journal.proofs.Common.{IsStorable, IsTaggedIn, JournalState, LeavesOnly, length, length-append, length-replicate, length-spelled, LiesElsewhere}
+use Rattle.rly_journal.proofs.Common.{LiesThere, List, Makes, makes_nothing, MakesFront, maps_held, maps_same, may_open, MayMove, MayRenew, moved_state, None}
+use Rattle.rly_journal.proofs.Common.{Ok, opened_spelled, overwritten, payloads_of, Place, Placed, refl, Renewal, renewed, renewing, replacing_synced}
+use Rattle.rly_journal.proofs.Common.{row_tried, same_inline, same_moved, same_sound, SameOutside, Second, segment_place, segment_within, shown_in, Some}
+use Rattle.rly_journal.proofs.Common.{sound_alike, standing_once, StandsAt, State, state_in, state_spelled, state_twice, Stored, stored_form, stored_in}
+use Rattle.rly_journal.proofs.Common.{stored_length, sym, Tail, Tries, true, unheaded, unread, whole, wider, ℕ, ⊎_elim, ◌++◌, ◌+◌, ◌<◌, ◌∙◌, ◌∷◌, ◌≡◌, ◌≤◌, ◌⊎◌}
+use Rattle.rly_disk.specs.Trace.{are_reads, DeviceEvent, images_within, seen_at_end}
 use Rattle.rly_machine.specs.Sound.{IsSound}
 use Rattle.rly_reclaim.specs.Reclaiming.{IsFree, IsVictim}
 use Rattle.rly_checkpoint.specs.Forms.{HaveForms}
-use Rattle.rly_checkpoint.specs.Stored.{IsStorable, state_in}
-use Rattle.rly_places.specs.Placed.{IsPlaced, LiesElsewhere}
 use Rattle.rly_places.specs.Places.{live_by_segment}
-use Rattle.rly_places.specs.Room.{HasRoomFor, drawn}
 use Rattle.rly_places.proofs.Drawing.{drawn_empty, drawn_inline, drawn_sound, drawn_stands}
-use Rattle.rly_places.proofs.Emptying.{may_open}
 use Rattle.rly_places.proofs.Placing.{holds_none}
-use Rattle.rly_places.proofs.Rooms.{live_length, has_room_for}
-use Rattle.rly_segment.specs.Heads.{opened_spelled}
-use Rattle.rly_segment.proofs.Replacing.{end_of_opening, image_of_opening}
+use Rattle.rly_places.proofs.Rooms.{has_room_for, live_length}
 use Rattle.rly_moving.proofs.Moves.{may_move}
-use Rattle.rly_drawing.specs.Drawing.{bytes_at}
-use Rattle.rly_drawing.proofs.Blank.{same_inline, same_sound, same_moved}
 use Rattle.rly_drawing.proofs.Storable.{drawn_storable, same_storable}
-use Rattle.rly_keeping.proofs.Opened.{drawn_all_apart, opened_stands}
-use Rattle.rly_standing.specs.Standing.{state_in as standing_state}
+use Rattle.rly_keeping.proofs.Opened.{drawn_all_apart, moved_lengths, opened_stands}
 use Rattle.rly_standing.specs.Framing.{IsHeadFor}
 use Rattle.rly_standing.proofs.Agreeing.{other_bytes}
-use Rattle.rly_standing.proofs.Frame.{length-spelled}
 use Rattle.rly_standing.proofs.Framing.{opening_law}
 use Rattle.rly_standing.proofs.Growing.{opened_with, with_head}
 use Rattle.rly_standing.proofs.Inlining.{elsewhere_still}
-use Rattle.rly_journal.specs.Calls.{MayRenew}
-use Rattle.rly_journal.proofs.Counted.{drawing_reads}
-use Rattle.rly_journal.proofs.Reading.{IsGoing}
-use Rattle.rly_journal.proofs.Tagging.{apart_elsewhere, standing_at, standing_there, same_at, written_there, moved_tagged}
+use Rattle.rly_journal.proofs.Counted.{drawing_reads, drawn_counts, renewing_syncs, two_tried, unheaded_made}
+use Rattle.rly_journal.proofs.Reading.{broken_sound, IsGoing, leaves_durable, leaves_read, sound_read}
+use Rattle.rly_journal.proofs.Tagging.{apart_elsewhere, moved_tagged, same_at, standing_at, standing_there, tagged_free, written_there}
 use Rattle.rly_journal.proofs.Opening.{shown_length, shown_whole}
+use Rattle.rly_disk.proofs.Making.{makes_later, makes_leaves, makes_seen, makes_settled, reads_quiet, synced_behind}
+use Rattle.rly_standing.proofs.Following.{front_all, only_front}
+use Rattle.rly_journal.specs.HelpersRounds.{IsRenewing}
+use Rattle.rly_standing.specs.Standing.{state_in as standing_state, Standing, IsStanding, Stands}
+use Rattle.rly_journal.specs.declared.tail.RenewFault.TheVariants as fault
 
 -- ---- what was chosen, on a disk of so many bytes, and what was drawn
 
@@ -85,9 +79,8 @@ module _ {disk : DiskState} {tail : Tail} {r : Renewal} (d : IsDrawn disk tail r
   pub copy_head : IsHeadOf stored_length stored_form tail.geometry r.target (tail.generation + 1) r.copy
   copy_head =
       let params : r.copy.params ≡ tail.geometry.params = ap (λ (t : State Stored). t.params) d.copy ∙ d.chosen.params in
-      let inline = same_inline r.copy zeros d.copy in
       let drawn = drawn_inline tail.geometry r.victim unread r.places (λ p. length-replicate p.length 0) in
-      let room = d.chosen.room.head r.copy copy_sound params (omega (arith, inline, drawn, d.chosen.may.inline)) in
+      let room = d.chosen.room.head r.copy copy_sound params (omega (arith, same_inline r.copy zeros d.copy, drawn, d.chosen.may.inline)) in
       search (arith, params, d.chosen.few, ap (λ (t : State Stored). t.seq) d.copy, room)
 
   pub copy_forms : All (HaveForms (IsStorable Second)) r.copy.hops
@@ -227,10 +220,8 @@ module _ {disk : DiskState} {tail : Tail} {s : State (List ℕ)} {r : Renewal} (
   -- a crash at any moment
   pub crash : (c : List ℕ) → images_within (renewing tail r) disk.seen (λ i. i ≡ disk.seen) c → Stands c s
   crash c image =
-      ⊎_elim
-      (λ before. rw before (durable.logged.x, durable.logged.stands, durable.logged.state))
-      (λ within. rw state
-      (opening_law disk.seen c x r.target r.copy there may_write
+      ⊎_elim (λ before. rw before (durable.logged.x, durable.logged.stands, durable.logged.state))
+      (λ within. rw state (opening_law disk.seen c x r.target r.copy there may_write
       (image_of_opening stored_length stored_form tail.geometry r.target (tail.generation + 1) r.copy _ disk.seen c
       (rw durable.settled.consistent.seen_size d.chosen.layout) d.chosen.may.there (copy_head d) (durable.logged.gates r.target d.chosen.may.there) within)))
       (reads_then (drawing_for tail r) (heading tail r) (drawing_reads tail r) disk.seen (λ i. i ≡ disk.seen) c image)
@@ -242,10 +233,9 @@ pub renewing_law : {D : Type 0} {state : D → DiskState} {j : JournalState D} {
     → MayRenew (state j.disk).seen j.tail j.state r
 renewing_law {state = state} {j} here sound wide honest full r renewal =
     let g : Geometry = j.tail.geometry in
-    let alike = renewal.kept.alike in
     let layout = here.sound.shaped.geometry in
-    let sound_places : IsSound stored_length r.places = sound_alike length stored_length j.state r.places (sym alike) sound in
-    let places = alike ∙ sym here.sound.alike in
+    let sound_places : IsSound stored_length r.places = sound_alike length stored_length j.state r.places (sym renewal.kept.alike) sound in
+    let places = renewal.kept.alike ∙ sym here.sound.alike in
     let params : r.places.params ≡ g.params = ap (λ (t : State ℕ). t.params) places ∙ here.sound.shaped.params in
     let few : j.tail.generation ≤ r.places.seq = omega (arith, here.sound.shaped.full full, ap (λ (t : State ℕ). t.seq) places) in
     let may = may_move g j.tail.segment r.target r.victim r.places layout.segments layout.fits sound_places params renewal.target renewal.victim
@@ -253,3 +243,97 @@ renewing_law {state = state} {j} here sound wide honest full r renewal =
     let room = has_room_for g r.places j.tail.segment r.target r.victim layout.segments layout.fits sound_places params renewal.target renewal.victim in
     let drawn : IsDrawn (state j.disk) j.tail r = search (layout, sound_places, params, few, may, room, renewal, renewal.bytes) in
     may_renew drawn renewal (here.durable honest) wide
+
+-- ---- what making room for a round came to: nothing was due; or the next segment was, and was opened or not
+
+-- nothing was due
+pub calm_ready : {A D : Type 0} {done : A} {state : D → DiskState} {old : JournalState D} {x : IndexState} {calls : List Call} → IsGoing state old x
+    → (IsDueFor old calls → ⊥) → IsReadied state old old calls (Ok done)
+calm_ready {state = state} {old} {calls = calls} j none =
+    let ready : IsReady state old old calls = record {
+      opened = None;
+      renewal = tt;
+      due = λ some. cc;
+      unless = λ _. none;
+      calm = λ _. refl;
+      next = λ due. absurd (none due);
+      logs = λ commands whole last made. row_tried state _ whole made;
+    } in
+    let leaves = λ (honest : (state old.disk).honest). leaves_durable (j.durable honest) in
+    search (arith, j.whole, none, ready, leaves, makes_later state (makes_nothing state old.disk))
+
+-- a segment was due
+module _ {D : Type 0} {state : D → DiskState} {a : D} {tail : Tail} {x : IndexState} {s : State (List ℕ)} {position target victim : ℕ} {copy : State Stored}
+    (facts : (disk : D) → (state disk).honest → Consistent (state disk)) (sound : IsSoundJournal (state a) tail x s position false)
+    (d : IsDrawn (state a) tail (record { places = x.spool.state; target = target; victim = victim; copy = copy })) where
+  abbrev r : Renewal
+  r = record { places = x.spool.state; target = target; victim = victim; copy = copy }
+
+  renewal : IsRenewal (state a) tail s r
+  renewal =
+      -- what the device reads has no live payload where there is none by the index
+      let free : (state a).honest → (z : Standing) → IsStanding (state a).seen z → All (LiesElsewhere z.geometry target) (payloads_of (stored_in z)) =
+      λ honest z stands. let there = standing_there (sound.durable refl honest).logged in
+      rw (← standing_once _ z there stands)
+      (tagged_free _ r.places target there.scanned (sound.tagged refl honest _ there) d.chosen.free.may_open.other d.chosen.may.empty) in
+      search (sound.kept refl, d, d.bytes, free)
+
+  -- some of the victim's payloads were read, or all of them
+  only_kept : {b : D} {whole : Bool} → MakesFront state (drawing_for tail r) whole a b → IsSoundJournal (state b) tail x s position false
+      × ((state a).honest → LeavesOnly (state a) (state b) (λ image. Stands image s)) × ((state b).syncs ≤ (state a).syncs + 3)
+  only_kept made =
+      let only = only_front state facts (reads_quiet (drawing_for tail r) (drawing_reads tail r)) made in
+      (sound_read only sound, (λ honest. leaves_read (leaves_durable (sound.durable refl honest)) only honest), (drawn_counts state tail r made).1)
+
+  leaves : {b : D} {done : Bool} → Makes state (renewing tail r) done a b → (state a).honest → LeavesOnly (state a) (state b) (λ image. Stands image s)
+  leaves made honest =
+      let durable = sound.durable refl honest in makes_leaves state (λ image. Stands image s) made durable.settled (crash d renewal durable)
+
+  module _ {A : Type 0} {b : D} {calls : List Call} (due : (holds_command calls ≡ true) × IsFull tail) where
+    -- no memory was left for its head, or for what it holds
+    pub starved : MakesFront state (drawing_for tail r) true a b → IsRenewing {A = A} state tail tail x s position calls (Err fault.OutOfMemory) a b
+    starved made =
+        let kept = only_kept made in search (arith, inl, due, renewal, made, kept.0, kept.1, kept.2, makes_later state made.makes)
+
+    -- a read of them failed
+    pub unread_front : Makes state (drawing_for tail r) false a b → IsRenewing {A = A} state tail tail x s position calls (Err fault.Read) a b
+    unread_front made =
+        let kept = only_kept (front_all state made) in search (arith, inl, inr, due, renewal, made, kept.0, kept.1, kept.2, makes_later state made)
+
+    -- its head wasn't written
+    pub headless : Tries state (unheaded tail r) a b → IsRenewing {A = A} state tail tail x s position calls (Err fault.Device) a b
+    headless tries =
+        let made = unheaded_made state tail r tries in
+        let kept : IsSoundJournal (state b) tail x s position true = broken_sound (rw (makes_later state made).size sound.shaped) sound.alike in
+        search (arith, inr, due, renewal, tries, kept, leaves made, renewing_syncs state tail r made, makes_later state made)
+
+    -- it was opened
+    pub opened_renewing : {done : A} {end : Tail} {y : IndexState} → Makes state (renewing tail r) true a b → end ≡ renewed tail r
+        → y.spool.state ≡ moved_state tail.geometry target victim x.spool.state → IsAtEnd end y → length tail.closed ≡ 256
+        → IsRenewing state tail end y s position calls (Ok done) a b
+    opened_renewing {end = end} {y} made is moved ends wide =
+        let later = makes_later state made in
+        let seen = λ (honest : (state b).honest). makes_seen state made (later.honest.0 honest) in
+        let before = λ (honest : (state b).honest). sound.durable refl (later.honest.0 honest) in
+        let synced = synced_behind (drawing_for tail r) (heading tail r) (replacing_synced (segment_place tail.geometry target) _ _) in
+        let room = λ (again : (holds_command calls ≡ true) × IsFull end). renew_room d (rw is at again.1) in
+        let alike : IsAlike y.spool.state s = rw moved (moved_lengths tail.geometry target victim x.spool.state d.chosen.may ∙ sound.alike) in
+        let kept : IsKept (state b) y.spool.state s = record { alike = alike; bytes = λ h. rw (moved, seen h) (renewed_bytes d renewal (before h)) } in
+        let ready : IsReady state (record { disk = a; tail = tail; state = s; position = position; broken = false })
+        (record { disk = b; tail = end; state = s; position = position; broken = false }) calls = record {
+          opened = Some r;
+          renewal = renewal;
+          due = λ _. due;
+          unless = λ none. cc;
+          calm = λ none. absurd (none due);
+          next = λ _. ap (λ (t : Tail). t.generation) is;
+          logs = λ commands whole last logged. two_tried state (renewing tail r) _ whole made (rw is at logged);
+        } in
+        let shaped : IsShaped (state b).size end y = rw is (renew_shape d later.size moved) in
+        let durable : (state b).honest → IsDurable (state b) end s = λ honest.
+        let logged : IsLogged (state b).seen end s = rw (is, seen honest) (renewed_logged d renewal (before honest) wide) in
+        record { settled = makes_settled state made synced (later.honest.0 honest) (facts b); logged = logged } in
+        let tagged : (state b).honest → IsTaggedIn (state b).seen y.spool.state =
+        λ honest. rw (moved, seen honest) (renewed_tagged d renewal (before honest)) in
+        let here : IsSoundJournal (state b) end y s position false = search (shaped, kept, ends, durable, tagged, sound.counted) in
+        search (ap (λ (t : Tail). t.geometry) is, here, room, ready, leaves made, renewing_syncs state tail r made, later)

@@ -1,26 +1,16 @@
 -- What a round came to: room was made for its calls or not, and then they were served, which ends in one of three ways.
-use Rattle.std.proofs.Common.{◌≡◌, ◌⊎◌, ◌+◌, ◌≤◌, ◌∷◌, ◌++◌, [], ◌∙◌, ℕ, true, false, eqb, List, length, map, arith, refl, sym, inl, inr, ⊎_elim, ap}
-use Rattle.rly_journal.proofs.Common.{accepted_of, all_reads, Answer, appending, AreLostWhereWanted, AreServed, Call, Commands, DeviceRead, DiskState, Err}
-use Rattle.rly_journal.proofs.Common.{fetching, fold, front_all, group_body, GroupState, IndexState, IsDueFor, IsKept, IsReadied, IsRound, JournalState, Later}
-use Rattle.rly_journal.proofs.Common.{LeavesOnly, logging, Makes, makes_later, makes_syncs, MakesRound, MakesShut, next_state, nothing_tried, OnlyRead}
-use Rattle.rly_journal.proofs.Common.{OnlyReadsFailed, Outcome, placed_group, Refusal, refusals, Refused, refused_as, rounding, Stands, State, stored_length}
-use Rattle.rly_journal.proofs.Common.{Tail, taken_of, Tries, tries_joined, tries_later, Unsure, zip}
-use Rattle.std.specs.Prelude.{Ok, not}
-use Rattle.rly_core.specs.declared.refusal.Refusal.TheVariants.{OutOfMemory}
-use Rattle.std.proofs.lemmas.Bool.{cases_Bool}
-use Rattle.rly_disk.proofs.Making.{makes_failed}
-use Rattle.rly_disk.proofs.Composition.{joined, later_again, rose_earlier, rose_later, weaker}
-use Rattle.rly_fetching.specs.Fetching.{AreAnswersOf}
-use Rattle.rly_fetching.proofs.TriedReads.{tried_syncs}
-use Rattle.rly_standing.specs.Log.{IsSameHead}
-use Rattle.rly_journal.specs.Journal.{IsSafe, Breaks, Goes, IsShut}
-use Rattle.rly_journal.specs.Rounds.{refusal_of}
-use Rattle.rly_journal.specs.HelpersReady.{IsServed, IsReady}
+use Rattle.rly_journal.proofs.Common.{[], accepted_of, all_reads, Answer, ap, appending, AreAnswersOf, AreLostWhereWanted, AreServed, arith, Call, cases_Bool}
+use Rattle.rly_journal.proofs.Common.{Commands, DeviceRead, DiskState, eqb, Err, false, fetching, fold, front_all, group_body, GroupState, IndexState, inl, inr}
+use Rattle.rly_journal.proofs.Common.{IsKept, IsReadied, IsReady, IsSameHead, IsServed, joined, Later, later_again, LeavesOnly, length, List, logging, Makes}
+use Rattle.rly_journal.proofs.Common.{makes_failed, makes_later, makes_syncs, map, next_state, not, nothing_tried, Ok, OnlyRead, Outcome, OutOfMemory}
+use Rattle.rly_journal.proofs.Common.{placed_group, refl, Refusal, refusal_of, refusals, Refused, refused_as, rose_earlier, rose_later, rounding, Stands, State}
+use Rattle.rly_journal.proofs.Common.{stored_length, sym, Tail, taken_of, tried_syncs, Tries, tries_joined, tries_later, true, Unsure, weaker, zip, ℕ, ⊎_elim}
+use Rattle.rly_journal.proofs.Common.{◌++◌, ◌+◌, ◌∙◌, ◌∷◌, ◌≡◌, ◌≤◌, ◌⊎◌}
+use Rattle.rly_journal.specs.Journal.{IsSafe, Breaks, Goes, IsShut, IsDueFor, IsRound, JournalState, MakesRound, MakesShut, OnlyReadsFailed}
 use Rattle.rly_journal.proofs.Reading.{leaves_read}
 use Rattle.rly_journal.proofs.Serving.{IsServing, alike_front, came, crash_group, logging_group}
 use Rattle.rly_journal.proofs.Telling.{granted_each, refused_each, told_each, told_served}
-use Rattle.rly_journal.proofs.Counted.{logging_sound, round_alone, drawn_counts}
-use Rattle.rly_journal.proofs.Rows.{unheaded_made}
+use Rattle.rly_journal.proofs.Counted.{drawn_counts, logging_sound, round_alone, unheaded_made}
 
 -- where all calls are refused for another reason, none is lost
 module _ (refusal : Refusal) (position : ℕ) (memory : Refused refusal ≡ Refused OutOfMemory → ⊥) (device : Refused refusal ≡ Refused DeviceRead → ⊥) where
@@ -43,16 +33,15 @@ module _ {D : Type 0} {state : D → DiskState} {old : JournalState D} {x y : In
       → (given : List Answer) × (after ≡ before ++ given) × AreAnswersOf (state mid) outcomes given × Tries state (fetching outcomes given) mid b
       → IsServed state old (record old { disk = b; tail = end; state = now; position = counted }) calls before after
   served {mid} {end = end} made kept logged is counts only answered =
-      let given = answered.0 in
       let all =
-      told_each (state mid) old.tail.geometry _ _ _ commands kept [] calls outcomes given e.done.count answered.2.count refl (came e) answered.2.each in
+      told_each (state mid) old.tail.geometry _ _ _ commands kept [] calls outcomes answered.0 e.done.count answered.2.count refl (came e) answered.2.each in
       let right = (makes_later state made).honest.1 in
-      let served = rw (← e.shows) at (told_served (state old.disk) _ old.state calls outcomes given right (answered.2.count ∙ e.done.count) all.0) in
+      let served = rw (← e.shows) at (told_served (state old.disk) _ old.state calls outcomes answered.0 right (answered.2.count ∙ e.done.count) all.0) in
       let recorded = rw (← all.0.taken) at e.done.holds.have in
       let makes = rw (← all.0.taken) at made in
       let head : IsSameHead old.tail end = rw is (record { segment = refl; generation = refl }) in
       let leaves = λ (honest : (state old.disk).honest). leaves_read (logged honest) only (right honest) in
-      rw e.going.whole (search (arith, answered.1, counts, served, recorded, all, all_reads outcomes given, makes, answered.3, head, leaves))
+      rw e.going.whole (search (arith, answered.1, counts, served, recorded, all, all_reads outcomes answered.0, makes, answered.3, head, leaves))
 
   -- a write or a sync of it failed
   module _ (some : eqb group.count 0 ≡ false) {b : D} (made : Makes state (appending old.tail.gate (group_body group)) false old.disk b) where
@@ -61,12 +50,10 @@ module _ {D : Type 0} {state : D → DiskState} {old : JournalState D} {x y : In
     failed_served {end = end} is told =
         let all = granted_each old.tail.geometry old.tail.gate x.spool.state old.state (alike_front e) [] calls outcomes e.done.count (came e) in
         let served = rw (← e.shows) at (told_served (state old.disk) (Unit {0}) old.state calls outcomes _ (λ _. tt) all.2 all.1) in
-        let recorded = rw (← all.1.taken) at e.done.holds.have in
         let makes = rw (← all.1.taken) at (logging_group e some made) in
         let refused = refused_each old.tail.geometry old.tail.gate x.spool.state old.state Unsure old.position [] calls outcomes e.done.count (came e) in
-        let unsure = rw refused at told in
         let head : IsSameHead old.tail end = rw is (record { segment = refl; generation = refl }) in
-        search (arith, served, recorded, all, makes, nothing_tried state b, unsure, head, crash_group e some made)
+        search (arith, served, rw (← all.1.taken) at e.done.holds.have, all, makes, nothing_tried state b, rw refused at told, head, crash_group e some made)
 
 -- ---- a round in two steps: making room, and serving its calls
 
@@ -125,10 +112,9 @@ module _ {A D : Type 0} {state : D → DiskState} {old mid new : JournalState D}
   well_rounded = record {
     answers = (round_came.0, round_came.1, round_came.2);
     lost = (round_came.0, round_came.1, inl round_came.3);
-    trace = inl (
+    trace =
         let read = λ (going : new.broken ≡ false). rw room.same at (served.read going) in
-        search (served_there, served.told, served.recorded, served.unread, ready.renewal, ready.due, ready.unless, all_made, wanted, read)
-        );
+        inl (search (served_there, served.told, served.recorded, served.unread, ready.renewal, ready.due, ready.unless, all_made, wanted, read));
     any_moment = λ honest.
         let leaves : LeavesOnly (state old.disk) (state new.disk) (λ image. Stands image old.state ⊎ Stands image new.state) =
         weaker _ _ (λ image. ⊎_elim (λ before. inl before) (λ now. now))
@@ -173,21 +159,17 @@ module _ {A D : Type 0} {state : D → DiskState} {old new : JournalState D} {ca
           × (AreLostWhereWanted old.state (zip calls given) ⊎ IsShut old new calls given) × (new.broken ≡ false → IsShut old new calls given)
       stays going told alone =
           let same = shut.came.0 ∙ ap (λ b. record old { disk = new.disk; broken = b }) (going ∙ sym whole) in
-          let is : IsShut old new calls given = (record { due = makes.due; same = same }, told) in
-          (inr (inl (whole, is, alone)), inr is, λ _. is)
+          let is : IsShut old new calls given = (record { due = makes.due; same = same }, told) in (inr (inl (whole, is, alone)), inr is, λ _. is)
 
   pub shut_rounded : {before after : List Answer} → after ≡ before ++ given → IsRounded state old new calls before after
   shut_rounded told = record {
     answers = (given, told, shut_came.0);
     lost = (given, told, shut_came.1);
     trace = inr (shut.same, refusal, told, makes);
-    any_moment = λ honest. record {
-      given = refusals OutOfMemory old.state.seq calls;
-      target = old.state;
-      served = starved (state old.disk) old.state calls;
-      leaves = weaker _ _ (λ image stands. inl stands) (shut.any_moment honest);
-      running = λ _. sym shut.same;
-    };
+    any_moment = λ honest.
+        let served = starved (state old.disk) old.state calls in
+        let leaves = weaker _ (λ image. Stands image old.state ⊎ Stands image old.state) (λ image stands. inl stands) (shut.any_moment honest) in
+        record { given = refusals OutOfMemory old.state.seq calls; target = old.state; served = served; leaves = leaves; running = λ _. sym shut.same };
     syncs = omega (arith, shut.syncs);
     few_syncs = λ none. absurd (none makes.due);
     stays = λ none. absurd (none makes.due);

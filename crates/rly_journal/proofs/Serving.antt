@@ -1,21 +1,57 @@
 -- A round whose calls were evaluated, and whose accepted commands are made durable before they are answered.
-use Rattle.std.proofs.Common.{◌≡◌, ◌⊎◌, ◌+◌, ◌≤◌, ◌∷◌, ◌++◌, [], ◌∙◌, ℕ, Bool, true, false, eqb, List, length, arith, ap, sym, length-append}
-use Rattle.rly_journal.proofs.Common.{All, All-cons, All-nil, AllAccepted, append-nil, appending, AreOutcomes, body_of, Call, Commands, Consistent, DiskState}
-use Rattle.rly_journal.proofs.Common.{empty_group, fold, gathered_kept, Geometry, group_body, GroupState, holds_body, HoldsIndex, IndexState, IsAlike, IsAtEnd}
-use Rattle.rly_journal.proofs.Common.{IsDueFor, IsEvaluated, IsIn, IsKept, IsLayout, IsShaped, IsSoundJournal, JournalState, LeavesOnly, logging, Makes}
-use Rattle.rly_journal.proofs.Common.{makes_later, makes_nothing, nat_tests, OnlyRead, Outcome, place_after, placed_group, segment_end, segment_within, Stands}
-use Rattle.rly_journal.proofs.Common.{State, Stored, stored_length, Tail, taken_by, taken_of, zip}
-use Rattle.std.proofs.lemmas.List.{nil_from_length}
+use Rattle.rly_journal.proofs.Common.{[], All, All-cons, All-nil, AllAccepted, ap, append-nil, append_image, append_logged, appended_tail, appending}
+use Rattle.rly_journal.proofs.Common.{AreOutcomes, arith, body_of, body_small, Bool, Call, Commands, Consistent, DiskState, empty_group, eqb, false, fold}
+use Rattle.rly_journal.proofs.Common.{gathered_kept, Geometry, group_body, group_fits, group_of, grouped_outside, grouped_stands, GroupState, HaveBody, Holds}
+use Rattle.rly_journal.proofs.Common.{holds_body, holds_have, HoldsIndex, IndexState, IsAlike, IsAtEnd, IsClosed, IsDueFor, IsDurable, IsEvaluated, IsIn}
+use Rattle.rly_journal.proofs.Common.{IsKept, IsLayout, IsShaped, IsSoundJournal, IsTaggedIn, IsThereFor, JournalState, LeavesOnly, length, length-append, List}
+use Rattle.rly_journal.proofs.Common.{logged_within, logging, Makes, makes_later, makes_leaves, makes_nothing, nat_tests, nil_from_length, OnlyRead, Outcome}
+use Rattle.rly_journal.proofs.Common.{overwritten, place_after, placed_group, segment_end, segment_within, Stands, State, Stored, stored_length, sym, Tail}
+use Rattle.rly_journal.proofs.Common.{taken_by, taken_of, true, written, zip, ℕ, ◌++◌, ◌+◌, ◌∙◌, ◌∷◌, ◌≡◌, ◌≤◌, ◌⊎◌}
 use Rattle.rly_journal.proofs.Reading.{IsGoing, sound_read}
-use Rattle.rly_journal.specs.HelpersJournal.{IsIdle}
-use Rattle.rly_keeping.proofs.Images.{written}
-use Rattle.rly_grouping.proofs.Brought.{group_fits, grouped_outside, grouped_stands}
-use Rattle.rly_fetching.specs.Fetching.{IsThereFor}
-use Rattle.rly_journal.proofs.Appended.{append_durable, append_leaves, append_tagged}
 use Rattle.rly_journal.proofs.Evaluating.{few_taken}
 use Rattle.rly_journal.proofs.Fetching.{lies_within}
 use Rattle.rly_journal.proofs.Recovering.{shape_after}
 use Rattle.rly_journal.proofs.Redone.{alike_commands}
+use Rattle.rly_gate.proofs.Appending.{appending_image, appending_seen, appending_settled}
+use Rattle.rly_journal.proofs.Tagging.{tagged_appended}
+
+-- ---- a group was appended at the end of the journal
+
+module _ {D : Type 0} (state : D → DiskState) {a : D} {tail : Tail} {group : GroupState} {commands : Commands} {s : State (List ℕ)}
+    (durable : IsDurable (state a) tail s) (holds : Holds commands group) (count : IsIn 1 64 group.count) (accepted : AllAccepted length s commands)
+    (room : tail.gate + 6 + length (group_body group) ≤ segment_end tail.geometry tail.segment) where
+  have : HaveBody commands
+  have = holds_have commands group holds (omega (arith, holds.count, count.0), omega (arith, holds.count, count.1))
+
+  fits : tail.gate + 6 + length (body_of commands) ≤ segment_end tail.geometry tail.segment
+  fits = omega (arith, ap length (holds_body commands group holds), room)
+
+  within : tail.gate + 6 + length (body_of commands) ≤ length (state a).seen
+  within = omega (arith, fits, logged_within (state a).seen tail s durable.logged)
+
+  -- a crash at any moment leaves what stands for the state before the group or after it
+  pub append_leaves : {b : D} {whole : Bool} → Makes state (appending tail.gate (group_body group)) whole a b
+      → LeavesOnly (state a) (state b) (λ image. Stands image s ⊎ Stands image (fold length s commands))
+  append_leaves made =
+      let shut : IsClosed (state a).seen tail.gate = rw durable.logged.ends.gate durable.logged.stands.closed in
+      makes_leaves state _ (rw (holds.count, holds.records) at made) durable.settled
+      (λ c image. append_image tail commands s have accepted (body_small commands have) fits (state a).seen c durable.logged
+      (appending_image tail.gate (body_of commands) (state a).seen c shut within image))
+
+  module _ {b : D} (made : Makes state (appending tail.gate (group_body group)) true a b) where
+    then_seen : (state b).seen ≡ overwritten tail.gate (group_of (body_of commands)) (state a).seen
+    then_seen = appending_seen state tail.gate (body_of commands) (rw (holds.count, holds.records) at made) durable.settled.honest (omega (arith, within))
+
+    pub append_durable : ((state b).honest → Consistent (state b)) → IsDurable (state b) (appended_tail tail (group_body group)) (fold length s commands)
+    append_durable facts = record {
+      settled = appending_settled state tail.gate (group_body group) made durable.settled.honest facts;
+      logged = rw holds.records
+          (append_logged tail commands s have accepted (body_small commands have) fits (state a).seen (state b).seen durable.logged then_seen);
+    }
+
+    pub append_tagged : (places : State Stored) → IsTaggedIn (state a).seen places
+        → IsTaggedIn (state b).seen (fold stored_length places (placed_group tail.gate commands))
+    append_tagged places before = tagged_appended commands places durable.logged have accepted (body_small commands have) fits then_seen before
 
 -- ---- places that are wanted
 
@@ -30,11 +66,6 @@ module _ (g : Geometry) (size gate : ℕ) (s : State Stored) (t : State (List �
       All-cons (IsThereFor size) outcome outcomes (grind (arith, came.0, lies_within)) rest
 
 -- ---- the calls were evaluated
-
--- a journal whose group was written or left is idle again
-pub idle_again : {A : Type 0} {payload a b c : ℕ} {old new : GroupState} {before after : List A} → IsIdle payload old before a → b ≡ a → c ≡ b
-    → new ≡ empty_group payload → after ≡ [] → IsIdle payload new after c
-idle_again idle evaluated answered empty none = record { empty = empty; none = none; room = omega (arith, idle.room, evaluated, answered) }
 
 -- the calls of a round were evaluated by a journal that isn't broken, and where none of them needs a segment that isn't there
 pub record IsServing {D : Type 0} (state : D → DiskState) (old : JournalState D) (x y : IndexState) (group : GroupState) (now : State (List ℕ))
@@ -76,11 +107,12 @@ module _ {D : Type 0} {state : D → DiskState} {old : JournalState D} {x y : In
   ends_at : {gate : ℕ} → y.used ≡ gate → IsAtEnd (record old.tail { gate = gate }) y
   ends_at used = record { geometry = e.done.geometry ∙ e.going.ends.geometry; segment = e.done.segment ∙ e.going.ends.segment; used = used }
 
+  shaped : IsShaped (state old.disk).size old.tail x
+  shaped = e.going.sound.shaped
+
   -- where it was not written
   pub shape_kept : IsShaped (state old.disk).size old.tail y
-  shape_kept =
-      let shaped = e.going.sound.shaped in
-      shape_after commands shaped e.done.accepted e.done.state old.tail.gate (omega arith) shaped.within (λ full. omega (arith, shaped.full full))
+  shape_kept = shape_after commands shaped e.done.accepted e.done.state old.tail.gate (omega arith) shaped.within (λ full. omega (arith, shaped.full full))
 
   -- nothing was accepted
   module _ (none : eqb group.count 0 ≡ true) where
@@ -91,15 +123,12 @@ module _ {D : Type 0} {state : D → DiskState} {old : JournalState D} {x y : In
     still = e.shows ∙ ap (fold length old.state) nothing_taken
 
     pub group_none : group ≡ empty_group old.tail.geometry.params.payload
-    group_none =
-        let holds = rw nothing_taken at e.done.holds in
-        grind (arith, longest_there, holds.records, holds.count, holds.staged)
+    group_none = let holds = rw nothing_taken at e.done.holds in grind (arith, longest_there, holds.records, holds.count, holds.staged)
 
     -- the front of its commands too
     pub front_kept : (front back : Commands) → commands ≡ front ++ back
         → IsKept (state old.disk) (fold stored_length x.spool.state (placed_group old.tail.gate front)) (fold length old.state front)
-    front_kept front back is =
-        rw (nil_from_length front (omega (arith, length-append front back, ap length (sym nothing_taken ∙ is)))) e.going.kept
+    front_kept front back is = rw (nil_from_length front (omega (arith, length-append front back, ap length (sym nothing_taken ∙ is)))) e.going.kept
 
     pub logging_none : Makes state (logging old.tail.gate commands) true old.disk old.disk
     logging_none = rw nothing_taken (makes_nothing state old.disk)
@@ -109,8 +138,7 @@ module _ {D : Type 0} {state : D → DiskState} {old : JournalState D} {x y : In
     none_sound only =
         let same = rw nothing_taken at e.done.state in
         let ends : IsAtEnd old.tail y = ends_at (omega (arith, e.done.used, e.done.holds.count, ap length nothing_taken)) in
-        let tagged = rw (← same) at e.going.tagged in
-        sound_read only (rw still (search (same, shape_kept, ends, e.going)))
+        sound_read only (rw still (search (same, shape_kept, ends, rw (← same) at e.going.tagged, e.going)))
 
   -- some were
   module _ (some : eqb group.count 0 ≡ false) where
@@ -123,13 +151,12 @@ module _ {D : Type 0} {state : D → DiskState} {old : JournalState D} {x y : In
     -- so there is a segment for them
     pub group_room : old.tail.gate + 6 + length (group_body group) ≤ segment_end old.tail.geometry old.tail.segment
     group_room =
-        group_fits old.tail.geometry old.tail.segment old.tail.gate commands group longest_there (omega (arith, e.going.sound.shaped.above))
+        group_fits old.tail.geometry old.tail.segment old.tail.gate commands group longest_there (omega (arith, shaped.above))
         (λ full. e.ready ((few_taken calls outcomes).1 count_there.0, full)) e.done.holds count_there.1
 
     pub logging_group : {b : D} {whole : Bool} → Makes state (appending old.tail.gate (group_body group)) whole old.disk b
         → Makes state (logging old.tail.gate commands) whole old.disk b
-    logging_group made =
-        let same : logging old.tail.gate commands ≡ _ = grind (arith, holds_body commands group e.done.holds, count_there.0) in rw same made
+    logging_group made = let same : logging old.tail.gate commands ≡ _ = grind (arith, holds_body commands group e.done.holds, count_there.0) in rw same made
 
     -- a crash while it is written leaves what stands for the state before it or after it
     pub crash_group : {b : D} {whole : Bool} → Makes state (appending old.tail.gate (group_body group)) whole old.disk b → (state old.disk).honest
@@ -143,16 +170,13 @@ module _ {D : Type 0} {state : D → DiskState} {old : JournalState D} {x y : In
       before_it = (makes_later state made).honest.0
 
       room : old.tail.gate + 6 + length (group_body group) ≤ (state old.disk).size
-      room =
-          let shaped = e.going.sound.shaped in
-          omega (arith, group_room, segment_within old.tail.geometry old.tail.segment (state old.disk).size shaped.geometry shaped.segment)
+      room = omega (arith, group_room, segment_within old.tail.geometry old.tail.segment (state old.disk).size shaped.geometry shaped.segment)
 
       -- each of its commands goes on from there
       pub front_written : (front back : Commands) → commands ≡ front ++ back
           → IsKept (state b) (fold stored_length x.spool.state (placed_group old.tail.gate front)) (fold length old.state front)
       front_written front back is =
           let end : ℕ = segment_end old.tail.geometry old.tail.segment in
-          let shaped = e.going.sound.shaped in
           let index = rw (e.going.ends.geometry, e.going.ends.segment, e.going.ends.used) at e.holds.index in
           -- what was kept before is kept, as nothing of it lies where the group stands now
           let bytes = λ (honest : (state b).honest). let was = before_it honest in
@@ -171,8 +195,6 @@ module _ {D : Type 0} {state : D → DiskState} {old : JournalState D} {x y : In
       pub written_sound : {end : Tail} {counted : ℕ} → end ≡ record old.tail { gate = old.tail.gate + (5 + length (group_body group)) }
           → counted ≡ y.spool.state.seq → IsSoundJournal (state b) end y now counted old.broken
       written_sound is counts =
-          let shaped = e.going.sound.shaped in
-          let size = (makes_later state made).size in
           let gate : ℕ = old.tail.gate + (5 + length (group_body group)) in
           let shape = shape_after {y = y} commands shaped e.done.accepted e.done.state gate (omega arith) (omega (arith, group_room))
           (λ full. omega (arith, shaped.generation, count_there.0)) in
@@ -184,4 +206,4 @@ module _ {D : Type 0} {state : D → DiskState} {old : JournalState D} {x y : In
           rw (← e.done.state) at
           (append_tagged state (e.going.durable was) e.done.holds group_there bytes_accepted group_room made x.spool.state (e.going.tagged was)) in
           let counted = counts ∙ ap (λ (m : State ℕ). m.seq) alike_now in
-          rw is (search (size, shape, durable, tagged))
+          rw is (search ((makes_later state made).size, shape, durable, tagged))

@@ -1,25 +1,21 @@
 -- In which segments a spool of places has its payloads, and in which what was read of an image has them.
-use Rattle.std.proofs.Common.{◌≡◌, ◌≢◌, ◌≤◌, ◌+◌, ◌-◌, ◌++◌, ◌∷◌, [], ◌∙◌, ℕ, List, length, length-append, map, arith, sym, ap, refl, ◌<◌, ◌^◌, subst}
-use Rattle.rly_journal.proofs.Common.{All, All-cons, All-head, All-nil, all_there, AllAccepted, appended, astray, between_other, blank, blank_state, body_of}
-use Rattle.rly_journal.proofs.Common.{body_size, bytes_alike, Command, Commands, drawn_state, elsewhere_apart, first_of, flat_map, fold, fold_map, gate_of}
-use Rattle.rly_journal.proofs.Common.{Geometry, group_of, HaveBody, HeadForm, in_segment, Inline, inline_length, IsBrought, IsLogged, IsSameButForBytes}
-use Rattle.rly_journal.proofs.Common.{IsScanned, IsStanding, IsTagged, IsTaggedIn, length-frame, LiesApart, LiesBetween, LiesThere, logged_within, lying_at}
-use Rattle.rly_journal.proofs.Common.{map_command, map_state, maps_same, maps_settled, MayMove, moved_state, none_each, none_there, not_astray_there}
-use Rattle.rly_journal.proofs.Common.{overwritten, payload_of, payloads_of, payloads_sum, Place, Placed, placed_at, placed_brought, placed_from, placed_group}
-use Rattle.rly_journal.proofs.Common.{record_length, record_of, records_size, SameOutside, Second, segment_end, segment_once, segment_place, settled}
-use Rattle.rly_journal.proofs.Common.{settled_state, Standing, standing_end, standing_once, StandsAt, State, state_spelled, state_twice, step, step_none}
-use Rattle.rly_journal.proofs.Common.{Stored, stored_after, stored_commands, stored_form_of, stored_in, stored_length, stored_spelled, tagged, Tail}
-use Rattle.rly_journal.proofs.Common.{there_not_astray, unread, with_group}
+use Rattle.rly_journal.proofs.Common.{[], All, All-cons, All-head, All-nil, all_there, AllAccepted, ap, appended, arith, astray, between_other, blank}
+use Rattle.rly_journal.proofs.Common.{blank_length, blank_state, body_of, body_size, bytes_alike, Command, Commands, drawn_state, elsewhere_apart, first_of}
+use Rattle.rly_journal.proofs.Common.{flat_map, fold, fold_map, gate_above, gate_of, Geometry, get_or, group_of, HaveBody, HeadForm, in_segment, Inline}
+use Rattle.rly_journal.proofs.Common.{inline_length, IsBrought, IsLogged, IsSameButForBytes, IsScanned, IsStanding, IsTagged, IsTaggedIn, length, length-append}
+use Rattle.rly_journal.proofs.Common.{length-frame, LiesApart, LiesBetween, LiesElsewhere, LiesThere, List, logged_within, lying_at, map, map_command}
+use Rattle.rly_journal.proofs.Common.{map_state, maps_same, maps_settled, MayMove, moved_state, none_each, none_there, not_astray_there, overwritten}
+use Rattle.rly_journal.proofs.Common.{part-overwritten, payload_of, payloads_of, payloads_sum, Place, Placed, placed_at, placed_brought, placed_from}
+use Rattle.rly_journal.proofs.Common.{placed_group, record_length, record_of, records_size, refl, SameOutside, Second, segment_end, segment_once, segment_place}
+use Rattle.rly_journal.proofs.Common.{settled, settled_state, Standing, standing_end, standing_once, StandsAt, State, state_spelled, state_twice, step}
+use Rattle.rly_journal.proofs.Common.{step_none, Stored, stored-more, stored_after, stored_commands, stored_form_of, stored_in, stored_length, stored_spelled}
+use Rattle.rly_journal.proofs.Common.{subst, sym, tagged, Tail, there_not_astray, unread, with_group, ℕ, ◌+◌, ◌-◌, ◌<◌, ◌^◌, ◌∙◌, ◌∷◌, ◌≡◌, ◌≢◌, ◌≤◌}
 use Rattle.rly_checkpoint.specs.Widths.{entry_width}
 use Rattle.rly_checkpoint.proofs.Parts.{length-entry}
 use Rattle.rly_checkpoint.proofs.Sizes.{length-numbers, length-parts}
 use Rattle.rly_places.specs.Places.{segment_of, bytes_in, live_in}
-use Rattle.rly_drawing.proofs.Blank.{blank_length}
 use Rattle.rly_disk.proofs.Overwritten.{overwritten_outside}
-use Rattle.rly_disk.proofs.Ranges.{part-overwritten}
 use Rattle.rly_machine.specs.declared.command.Command.TheVariants.{Take}
-use Rattle.rly_places.specs.Placed.{LiesElsewhere}
-use Rattle.rly_standing.proofs.Frame.{gate_above}
 
 -- ---- in any segment but the head's own
 
@@ -48,11 +44,10 @@ pub moved_tagged : (g : Geometry) (target victim : ℕ) (s copy : State Stored) 
     → IsSameButForBytes copy (drawn_state g victim unread s)
     → (u : ℕ) → u ≢ target → map_state (tagged g u) (moved_state g target victim s) ≡ map_state (tagged g u) copy
 moved_tagged g target victim s copy may like u other =
+    let blanked : (v : State Stored) → map_state (tagged g u) (blank_state v) ≡ map_state (tagged g u) v =
+    λ v. state_twice (tagged g u) blank v ∙ maps_same (λ p. tagged g u (blank p)) (tagged g u) (λ p. grind (arith, blank_length p)) v in
     head_tagged g target u other Second (drawn_state g victim unread s) may.room ∙ sym (blanked (drawn_state g victim unread s))
     ∙ ap (λ (v : State Stored). map_state (tagged g u) v) (sym like) ∙ blanked copy
-  where
-    blanked : (v : State Stored) → map_state (tagged g u) (blank_state v) ≡ map_state (tagged g u) v
-    blanked v = state_twice (tagged g u) blank v ∙ maps_same (λ p. tagged g u (blank p)) (tagged g u) (λ p. grind (arith, blank_length p)) v
 
 -- ---- what was read, by the numbers of the end
 
@@ -61,8 +56,7 @@ standing_at tail x = record x { geometry = tail.geometry; segment = tail.segment
 
 module _ {image : List ℕ} {tail : Tail} {s : State (List ℕ)} (logged : IsLogged image tail s) where
   pub same_at : logged.x ≡ standing_at tail logged.x
-  same_at =
-      let ends = logged.ends in sym (λ i. record logged.x { geometry = ends.geometry i; segment = ends.segment i; generation = ends.generation i })
+  same_at = let ends = logged.ends in sym (λ i. record logged.x { geometry = ends.geometry i; segment = ends.segment i; generation = ends.generation i })
 
   pub standing_there : IsStanding image (standing_at tail logged.x)
   standing_there = subst (IsStanding image) same_at logged.stands
@@ -88,18 +82,12 @@ module _ (g : Geometry) (t segment : ℕ) (other : t ≢ segment) (there : segme
       → map (map_command (tagged g t)) (placed_from place commands) ≡ map (map_command (tagged g t)) (stored_commands commands)
   commands_tagged place [] above within = refl
   commands_tagged place (command ∷ commands) above within =
-      let size = records_size command commands in
-      let next : ℕ = place + record_length length command in
+      let size = records_size command commands in let next : ℕ = place + record_length length command in
       let brought = placed_brought g segment place place command there above (omega arith) (omega (arith, within, size)) in
       let rest = commands_tagged next commands (omega (arith, above)) (omega (arith, within, size)) in
       λ i. command_tagged place next place command brought i ∷ rest i
 
 -- ---- a group more
-
-stored_more : (s : State Stored) (groups : List Commands) (commands : Commands)
-    → stored_after s (groups ++ commands ∷ []) ≡ fold stored_length (stored_after s groups) (stored_commands commands)
-stored_more s [] commands = refl
-stored_more s (first ∷ groups) commands = stored_more (fold stored_length s (stored_commands first)) groups commands
 
 pub tagged_more : {image : List ℕ} (x : Standing) (s : State Stored) (gate : ℕ) (commands : Commands) → IsScanned image x → gate ≡ gate_of x
     → gate + 6 + length (body_of commands) ≤ standing_end x → IsTagged x s
@@ -109,37 +97,28 @@ tagged_more x s gate commands scanned is room same t other =
     let one =
     commands_tagged x.geometry t x.segment other scanned.newest.there (gate + 7) commands (omega (arith, above)) (omega (arith, room, body_size commands)) in
     let mapped = λ (u : State Stored) (l : List (Command Stored)). fold_map stored_length (λ (q : ℕ × ℕ). q.0) (tagged x.geometry t) u l (λ k d lt. refl) in
-    rw (stored_more x.head x.groups commands)
+    rw (stored-more x.head x.groups commands)
     (sym (mapped s (placed_group gate commands)) ∙ (λ i. fold (λ q. q.0) (same t other i) (one i)) ∙ mapped (stored_in x) (stored_commands commands))
 
 -- the accepted commands of a round were written as a group at the end: what was tagged is tagged, where the spool went on by them
 pub tagged_appended : {old new : List ℕ} {tail : Tail} {s : State (List ℕ)} (commands : Commands) (places : State Stored) → IsLogged old tail s
     → HaveBody commands → AllAccepted length s commands → length (body_of commands) < 2 ^ 32
-    → tail.gate + 6 + length (body_of commands) ≤ segment_end tail.geometry tail.segment
-    → new ≡ overwritten tail.gate (group_of (body_of commands)) old → IsTaggedIn old places
-    → IsTaggedIn new (fold stored_length places (placed_group tail.gate commands))
+    → tail.gate + 6 + length (body_of commands) ≤ segment_end tail.geometry tail.segment → new ≡ overwritten tail.gate (group_of (body_of commands)) old
+    → IsTaggedIn old places → IsTaggedIn new (fold stored_length places (placed_group tail.gate commands))
 tagged_appended {old} {new} {tail} {s} commands places logged have accepted few room written before y reads =
-    let x : Standing = standing_at tail logged.x in
-    let bytes : List ℕ = group_of (body_of commands) in
-    let stands : IsStanding old x = standing_there logged in
+    let x : Standing = standing_at tail logged.x in let stands : IsStanding old x = standing_there logged in
     let gate : tail.gate ≡ gate_of x = logged.ends.gate ∙ ap gate_of (same_at logged) in
-    let accepts = rw logged.state at accepted in
-    let framed = length-frame (body_of commands) in
-    let there = rw gate at (written_there tail.gate bytes written (omega (arith, framed, room, logged_within old tail s logged))) in
+    let accepts = rw logged.state at accepted in let framed = length-frame (body_of commands) in
+    let there = rw gate at (written_there tail.gate (group_of (body_of commands)) written (omega (arith, framed, room, logged_within old tail s logged))) in
     let grown : IsStanding new (with_group x commands) = appended x commands stands have accepts few (omega (arith, gate, room, framed)) there.0 there.1 in
     rw (← standing_once (with_group x commands) y grown reads) (tagged_more x places tail.gate commands stands.scanned gate room (before x stands))
 
 -- ---- a segment into which nothing lies
 
--- payloads that lie on the device, of which no byte lies there
-pub all_apart : (g : Geometry) (t : ℕ) (s : State Stored) → All (LiesThere g) (payloads_of s) → live_in g t s ≡ 0 → All (LiesApart g t) (payloads_of s)
-all_apart g t s there none k d lt = (there k d lt, none_each (bytes_in g t) (payloads_of s) (payloads_sum (bytes_in g t) s ∙ none) k d lt)
-
 pub apart_elsewhere : (g : Geometry) (t : ℕ) (p : Stored) → LiesApart g t p → LiesElsewhere g t p
 apart_elsewhere g t (Inline payload) lies = tt
 apart_elsewhere g t (Placed place) lies =
-    let there = lies.0.1 in
-    let once = segment_once g there.0 place lies.0.0 there.1 in
+    let there = lies.0.1 in let once = segment_once g there.0 place lies.0.0 there.1 in
     (lies.0.0, (there.0, (λ same. omega (arith, lies.0.0, lies.1, all_there g t place (once ∙ same))), there.1))
 
 module _ (g : Geometry) where
@@ -167,5 +146,6 @@ tagged_free x s t scanned same other none =
     let there : All (LiesThere g) (payloads_of (stored_in x)) = λ k d lt.
     not_astray_there g _ (groups_there g x.head x.groups
     (λ j e below. there_not_astray g _ (elsewhere_apart g x.segment _ (scanned.head.placed.elsewhere j e below)).0) k d lt) in
-    let apart = all_apart g t (stored_in x) there (sym (bytes_alike (bytes_in g t) (bytes_in g t) s (stored_in x) shares) ∙ none) in
-    λ k d lt. apart_elsewhere g t _ (apart k d lt)
+    let live : live_in g t (stored_in x) ≡ 0 = sym (bytes_alike (bytes_in g t) (bytes_in g t) s (stored_in x) shares) ∙ none in
+    let apart = none_each (bytes_in g t) (payloads_of (stored_in x)) (payloads_sum (bytes_in g t) (stored_in x) ∙ live) in
+    λ k d lt. apart_elsewhere g t (get_or (payloads_of (stored_in x)) k d) (there k d lt, apart k d lt)

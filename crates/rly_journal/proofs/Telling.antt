@@ -1,16 +1,12 @@
 -- Calls that were evaluated, and then answered: with what came of them, and with the payloads that were read.
-use Rattle.std.proofs.Common.{◌≡◌, ◌⊎◌, ◌∷◌, ◌++◌, [], ◌∙◌, ℕ, true, false, List, length, map, arith, ap, refl, sym, append_assoc}
-use Rattle.rly_journal.proofs.Common.{accepted_of, AllByRecursion, Answer, Answered, append-nil, AreFetches, AreLostWhereWanted, AreOutcomes, AreReadsOf}
-use Rattle.rly_journal.proofs.Common.{AreServed, Bytes, Call, Commands, DeviceRead, DiskState, fetch_reply, fetching, flat_map-cons, fold, fold_append}
-use Rattle.rly_journal.proofs.Common.{Geometry, HasBytes, is_failure, IsAlike, IsAnswered, IsFetched, IsKept, IsKnown, IsOutcomeOf, item_of, MayWantBytes}
-use Rattle.rly_journal.proofs.Common.{next_state, Option, Outcome, OutOfMemory, Place, placed_group, Refusal, refusals, Refused, refused_as, Reply, SeatId}
-use Rattle.rly_journal.proofs.Common.{State, state_in, Stored, stored_length, taken_by, taken_of, Wanted, zip}
-use Rattle.rly_machine.specs.History.{Legal, LegalButForBytes, accepted_by, harm, without_bytes}
+use Rattle.rly_journal.proofs.Common.{[], AllByRecursion, Answer, Answered, ap, append-nil, append_assoc, AreFetches, AreLostWhereWanted, AreOutcomes}
+use Rattle.rly_journal.proofs.Common.{AreReadsOf, AreServed, arith, Bytes, Call, Commands, DeviceRead, DiskState, false, fetch_reply, fetching, flat_map-cons}
+use Rattle.rly_journal.proofs.Common.{fold, fold_append, Geometry, harmless, HasBytes, IsAlike, IsAnswerOf, IsFetched, IsKept, IsKnown, IsOutcomeOf, IsWanted}
+use Rattle.rly_journal.proofs.Common.{item_of, length, List, map, MayWantBytes, MayWantMemory, OnlyLost, Option, Outcome, OutOfMemory, Place, placed_group}
+use Rattle.rly_journal.proofs.Common.{real_reply, refl, Refusal, refusals, Refused, refused_as, Reply, rows_for, SeatId, State, state_in, Stored, stored_length}
+use Rattle.rly_journal.proofs.Common.{sym, taken_by, taken_of, true, Wanted, zip, ℕ, ◌++◌, ◌∙◌, ◌∷◌, ◌≡◌, ◌⊎◌}
+use Rattle.rly_machine.specs.History.{Legal, LegalButForBytes, accepted_by, harm, without_bytes, accepted_of, is_failure, IsAnswered, next_state}
 use Rattle.rly_machine.proofs.Histories.{folds, legal_but_for_bytes}
-use Rattle.rly_machine.proofs.RealReplies.{harmless, real_reply}
-use Rattle.rly_fetching.specs.Fetching.{IsAnswerOf, rows_for}
-use Rattle.rly_journal.specs.Rounds.{MayWantMemory, OnlyLost}
-use Rattle.rly_journal.specs.HelpersOutcomes.{IsWanted}
 use Rattle.rly_journal.proofs.Fetching.{IsInFlight, fetched, fetched_bytes, fetching_as, lost_as}
 
 -- ---- one call
@@ -27,8 +23,7 @@ record IsAnswer (honest : Type 0) (u : State (List ℕ)) (call : Call) (outcome 
 -- an answer that the machine gave, or that told of want of memory
 known_answer : {honest : Type 0} {u : State (List ℕ)} {call : Call} {answer : Answer} → IsKnown call answer u → IsAnswer honest u call (Answered answer) answer
 known_answer {u = u} {call} {answer} known =
-    let but = (legal_but_for_bytes 0 u ((call, answer) ∷ []) (known.answered, tt)).0 in
-    grind (arith, but, known.answered, known.only, known.wanted)
+    let but = (legal_but_for_bytes 0 u ((call, answer) ∷ []) (known.answered, tt)).0 in grind (arith, but, known.answered, known.only, known.wanted)
 
 -- a Fetch is answered as the machine does, but for its bytes where the disk isn't honest; or it is lost, and its payload has bytes
 record IsBytesOrLost (honest : Type 0) (machine told : Reply) : Type 0 where
@@ -62,10 +57,9 @@ told_one : (g : Geometry) {disk : DiskState} {call : Call} {s : State Stored} {u
     → IsOutcomeOf g call outcome s u → IsAnswerOf disk outcome answer
     → IsAnswer disk.honest u call outcome answer × AreReadsOf u call.ask answer.reply (rows_for outcome answer)
 told_one g (Answered known) answer kept came is = rw is (known_answer came, came.unread)
-told_one g {disk} (Wanted seat number at limit place) answer kept came is = (
-  wanted_answer kept.alike came answer is.0 is.1 is.2 (fetched_is kept.alike came disk kept.bytes answer.reply is.3),
-  rw came.asks (fetching_as (flight kept.alike came) answer.reply),
-)
+told_one g {disk} (Wanted seat number at limit place) answer kept came is =
+    let told = wanted_answer kept.alike came answer is.0 is.1 is.2 (fetched_is kept.alike came disk kept.bytes answer.reply is.3) in
+    (told, rw came.asks (fetching_as (flight kept.alike came) answer.reply))
 
 -- ---- all calls
 
@@ -93,8 +87,7 @@ module _ {honest : Type 0} {u : State (List ℕ)} {call : Call} {outcome : Outco
 module _ (disk : DiskState) (g : Geometry) (gate : ℕ) (s : State Stored) (t : State (List ℕ)) (commands : Commands)
     (kept : (front back : Commands) → commands ≡ front ++ back → IsKept disk (fold stored_length s (placed_group gate front)) (fold length t front)) where
   pub told_each : (done : Commands) (calls : List Call) (outcomes : List Outcome) (given : List Answer) → length outcomes ≡ length calls
-      → length given ≡ length outcomes
-      → commands ≡ done ++ taken_of (zip calls outcomes) → AreOutcomes g gate s t done (zip calls outcomes)
+      → length given ≡ length outcomes → commands ≡ done ++ taken_of (zip calls outcomes) → AreOutcomes g gate s t done (zip calls outcomes)
       → AllByRecursion (λ x. IsAnswerOf disk x.0 x.1) (zip outcomes given)
       → AreTold disk.honest (fold length t done) calls outcomes given × AreFetches (fold length t done) (zip calls given) (fetching outcomes given)
   told_each done [] [] [] count same parts came each = (record { legal = tt; exact = λ _. tt; only = tt; taken = refl; wanted = tt }, refl)
@@ -102,10 +95,8 @@ module _ (disk : DiskState) (g : Geometry) (gate : ℕ) (s : State Stored) (t : 
       let one = told_one g outcome answer (kept done (taken_of (zip (call ∷ calls) (outcome ∷ outcomes))) parts) came.0 each.0 in
       let next = fold_append length t done (taken_by call outcome) ∙ next_done one.0 in
       let rest = rw next at (told_each (done ++ taken_by call outcome) calls outcomes given (omega (arith, count)) (omega (arith, same))
-      (parts ∙ sym (append_assoc done (taken_by call outcome) (taken_of (zip calls outcomes)))) came.1 each.1) in (
-        told_more one.0 rest.0,
-        (_, _, flat_map-cons (λ (x : Outcome × Answer). rows_for x.0 x.1) (outcome, answer) (zip outcomes given), one.1, rest.1),
-      )
+      (parts ∙ sym (append_assoc done (taken_by call outcome) (taken_of (zip calls outcomes)))) came.1 each.1) in
+      (told_more one.0 rest.0, (_, _, flat_map-cons (λ (x : Outcome × Answer). rows_for x.0 x.1) (outcome, answer) (zip outcomes given), one.1, rest.1))
   told_each done _ _ _ count same parts came each = absurd (omega (arith, count, same))
 
 -- what the machine answers, where payloads aren't read
@@ -113,9 +104,8 @@ granted_answer : (g : Geometry) (s : State Stored) {call : Call} {u : State (Lis
     → (answer : Answer) × IsAnswer (Unit {0}) u call outcome answer
 granted_answer g s (Answered known) alike came = (known, known_answer came)
 granted_answer g s {call = call} {u = u} (Wanted seat number at limit place) alike wanted =
-    let real = rw wanted.asks at (real_reply u call.ask) in
     let answer : Answer = record { seat = seat; number = number; reply = machine alike wanted; position = at } in
-    (answer, wanted_answer alike wanted answer refl refl refl (grind (arith, real)))
+    (answer, wanted_answer alike wanted answer refl refl refl (grind (arith, rw wanted.asks at (real_reply u call.ask))))
 
 module _ (g : Geometry) (gate : ℕ) (s : State Stored) (t : State (List ℕ))
     (alike : (front : Commands) → IsAlike (fold stored_length s (placed_group gate front)) (fold length t front)) where
@@ -126,8 +116,7 @@ module _ (g : Geometry) (gate : ℕ) (s : State Stored) (t : State (List ℕ))
   granted_each done (call ∷ calls) (outcome ∷ outcomes) count came =
       let one = granted_answer g (fold stored_length s (placed_group gate done)) outcome (alike done) came.0 in
       let rest = granted_each (done ++ taken_by call outcome) calls outcomes (omega (arith, count)) came.1 in
-      let next = fold_append length t done (taken_by call outcome) ∙ next_done one.1 in
-      (_, told_more one.1 (rw next at rest.1), omega (arith, rest.2))
+      (_, told_more one.1 (rw (fold_append length t done (taken_by call outcome) ∙ next_done one.1) at rest.1), omega (arith, rest.2))
   granted_each done _ _ count came = absurd (omega (arith, count))
 
 -- ---- what callers see
@@ -138,18 +127,15 @@ pub told_served : (disk : DiskState) (honest : Type 0) (t : State (List ℕ)) (c
     → length given ≡ length calls → AreTold honest t calls outcomes given → AreServed disk calls given t (fold length t (taken_of (zip calls outcomes)))
 told_served disk honest t calls outcomes given right count told =
     let exact = λ (is : disk.honest). told.exact (right is) in
-    let state = ap (fold length t) (sym told.taken) ∙ sym (folds 0 t (zip calls given) told.legal).0 in
-    search
+    let state = ap (fold length t) (sym told.taken) ∙ sym (folds 0 t (zip calls given) told.legal).0 in search
 
 -- ---- calls that are all refused after all
 
--- what came of a call tells who asked
-pub refused_each : (g : Geometry) (gate : ℕ) (s : State Stored) (t : State (List ℕ)) (refusal : Refusal) (position : ℕ) (done : Commands) (calls : List Call)
-    (outcomes : List Outcome)
-    → length outcomes ≡ length calls → AreOutcomes g gate s t done (zip calls outcomes)
-    → map (refused_as refusal position) outcomes ≡ refusals refusal position calls
-refused_each g gate s t refusal position done [] [] count came = refl
-refused_each g gate s t refusal position done (call ∷ calls) (outcome ∷ outcomes) count came =
-    let rest = refused_each g gate s t refusal position (done ++ taken_by call outcome) calls outcomes (omega (arith, count)) came.1 in
-    grind (arith, came.0)
-refused_each g gate s t refusal position done _ _ count came = absurd (omega (arith, count))
+module _ (g : Geometry) (gate : ℕ) (s : State Stored) (t : State (List ℕ)) (refusal : Refusal) (position : ℕ) where
+  -- what came of a call tells who asked
+  pub refused_each : (done : Commands) (calls : List Call) (outcomes : List Outcome) → length outcomes ≡ length calls
+      → AreOutcomes g gate s t done (zip calls outcomes) → map (refused_as refusal position) outcomes ≡ refusals refusal position calls
+  refused_each done [] [] count came = refl
+  refused_each done (call ∷ calls) (outcome ∷ outcomes) count came =
+      let rest = refused_each (done ++ taken_by call outcome) calls outcomes (omega (arith, count)) came.1 in grind (arith, came.0)
+  refused_each done _ _ count came = absurd (omega (arith, count))

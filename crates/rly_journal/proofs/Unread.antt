@@ -1,9 +1,9 @@
 -- A call is told that a read failed only where one did, in its round.
-use Rattle.std.proofs.Common.{◌≡◌, ◌⊎◌, ◌++◌, ◌∷◌, [], ◌∙◌, ℕ, Bool, true, false, List, arith, ap, inl, inr, refl}
-use Rattle.rly_journal.proofs.Common.{Answer, are_reads, AreFetches, AreFetching, AreLostWhereWanted, AreReadsOf, AreTried, AreUnreadWhere, Broken, Bytes, Call}
-use Rattle.rly_journal.proofs.Common.{count_joined, DeviceEvent, DeviceRead, DiskState, drawing_for, Entry, fetch_reply, HasBytes, HasFailedRead, is_spent}
-use Rattle.rly_journal.proofs.Common.{IsRound, item_of, JournalState, Later, MakesRound, MakesShut, MayWantBytes, nat_tests, next_state, reads_sound, Refusal}
-use Rattle.rly_journal.proofs.Common.{refusals, Refused, Reply, rounding, row_of, row_tried, State, Tries, Try, Unsure, zip}
+use Rattle.rly_journal.proofs.Common.{[], Answer, ap, are_reads, AreFetches, AreFetching, AreLostWhereWanted, AreReadsOf, AreTried, AreUnreadWhere, arith, Bool}
+use Rattle.rly_journal.proofs.Common.{Broken, Bytes, Call, count_joined, DeviceEvent, DeviceRead, DiskState, drawing_for, Entry, false, fetch_reply, HasBytes}
+use Rattle.rly_journal.proofs.Common.{HasFailedRead, inl, inr, is_spent, IsRound, item_of, JournalState, Later, List, MakesRound, MakesShut, MayWantBytes}
+use Rattle.rly_journal.proofs.Common.{nat_tests, next_state, reads_sound, refl, Refusal, refusals, Refused, Reply, rounding, row_of, row_tried, State, Tries}
+use Rattle.rly_journal.proofs.Common.{true, Try, Unsure, zip, ℕ, ◌++◌, ◌∙◌, ◌∷◌, ◌≡◌, ◌⊎◌}
 use Rattle.rly_machine.specs.declared.command.Ask.{Ask}
 use Rattle.rly_machine.specs.declared.command.Ask.TheVariants as ask
 use Rattle.rly_machine.specs.declared.command.Query.TheVariants.{Fetch}
@@ -48,10 +48,9 @@ ask_cut s (ask.Query query) rows rest may reads = absurd (grind arith)
 entries_cut : (Holds : Type 0) (s : State (List ℕ)) (entries : List Entry) (rows : List Try) → AreLostWhereWanted s entries → AreFetches s entries rows
     → (HasCut rows → Holds) → AreUnreadWhere Holds entries
 entries_cut Holds s [] rows wanted fetches why = tt
-entries_cut Holds s (entry ∷ entries) rows wanted fetches why = (
-  λ told. why (rw fetches.2 (ask_cut s entry.0.ask fetches.0 fetches.1 (wanted.1 told) (rw told at fetches.3))),
-  entries_cut Holds (next_state s entry) entries fetches.1 wanted.2 fetches.4 (λ cut. why (rw fetches.2 (cut_behind fetches.0 fetches.1 cut))),
-)
+entries_cut Holds s (entry ∷ entries) rows wanted fetches why =
+    let more = entries_cut Holds (next_state s entry) entries fetches.1 wanted.2 fetches.4 (λ cut. why (rw fetches.2 (cut_behind fetches.0 fetches.1 cut))) in
+    ((λ told. why (rw fetches.2 (ask_cut s entry.0.ask fetches.0 fetches.1 (wanted.1 told) (rw told at fetches.3)))), more)
 
 -- calls that were all refused
 refused_where : (Holds : Type 0) (refusal : Refusal) (p : ℕ) (calls : List Call) → (Refused refusal ≡ Refused DeviceRead → Holds)
@@ -68,13 +67,15 @@ module _ {D : Type 0} (state : D → DiskState) (old new : JournalState D) (call
   tried_unread : (rows : List Try) → Tries state rows old.disk new.disk → HasCut rows → Unread
   tried_unread rows tries cut =
       let unread = cut_unread (is_spent (state new.disk)) rows tries.events tries.tried cut in
-      let counted = tries.leads.failed_reads in
-      grind (arith, nat_tests)
+      let counted = tries.leads.failed_reads in grind (arith, nat_tests)
 
   -- calls that were served, or refused where no segment was opened
-  traced : (given : List Answer) → new.broken ≡ false → MakesRound state old new calls [] given
+  abbrev Traced : List Answer → Type 0
+  Traced given =
+      MakesRound state old new calls [] given
       ⊎ ((new.state ≡ old.state) × (told : Refusal) × (given ≡ refusals told old.position calls) × MakesShut state old new calls told)
-      → AreUnreadWhere Unread (zip calls given)
+
+  traced : (given : List Answer) → new.broken ≡ false → Traced given → AreUnreadWhere Unread (zip calls given)
   traced given whole (inl made) =
       rw (made.told whole) (entries_cut Unread old.state (zip calls made.given) made.fetches made.wanted (made.read whole)
       (λ cut. tried_unread _ made.makes (cut_behind (rounding old.tail made.opened _ _) made.fetches cut)))
@@ -85,10 +86,7 @@ module _ {D : Type 0} (state : D → DiskState) (old new : JournalState D) (call
   ]))
 
   -- the calls of a round
-  pub round_unread : (given : List Answer) → IsRound state old new calls given
-      → (old.broken ≡ false → MakesRound state old new calls [] given
-      ⊎ ((new.state ≡ old.state) × (told : Refusal) × (given ≡ refusals told old.position calls) × MakesShut state old new calls told))
-      → AreUnreadWhere Unread (zip calls given)
+  pub round_unread : (given : List Answer) → IsRound state old new calls given → (old.broken ≡ false → Traced given) → AreUnreadWhere Unread (zip calls given)
   round_unread given (inl was) trace = rw was.1 (refused_where Unread Broken old.position calls (λ same. cc))
   round_unread given (inr (inl shut)) trace = traced given (ap (λ (j : JournalState D). j.broken) shut.1.0.same ∙ shut.0) (trace shut.0)
   round_unread given (inr (inr (inl went))) trace = traced given went.1.broken (trace went.0)

@@ -1,5 +1,4 @@
 -- The names that several proofs of this crate cite, passed on from one place. Declares nothing.
-pub use Rattle.byteorder.specs.Endian.{big_bytes, big_number}
 pub use Rattle.rly_checkpoint.proofs.Sizes.{length-numbers, length-parts}
 pub use Rattle.rly_checkpoint.specs.Checkpoint.{checkpoint_of, inline_form, IsOfForm, Spelled, spelled_by}
 unfoldable pub use Rattle.rly_checkpoint.specs.Checkpoint.{codel_of, entry_spelled, hop_spelled, state_spelled}
@@ -13,18 +12,16 @@ pub use Rattle.rly_checkpoint.specs.declared.stored.Stored.TheVariants.{Inline, 
 pub use Rattle.rly_core.specs.Bounds.{IsIn}
 pub use Rattle.rly_core.specs.declared.params.Geometry.{Geometry}
 pub use Rattle.rly_core.specs.declared.params.Params.{Params}
+pub use Rattle.rly_disk.proofs.Common.{AllWrites, DeviceEvent, DiskState, images_within, LeavesOnly, Makes, OnlyReads, overwritten, overwritten_in}
+pub use Rattle.rly_disk.proofs.Common.{overwritten_outside, Read, SameOutside, seen_at_end, Settled}
 pub use Rattle.rly_disk.proofs.Making.{AreSynced, cut_short, each_failed, each_next, each_reads, makes_leaves, makes_seen, makes_settled, quiet_new, reads_new}
 pub use Rattle.rly_disk.proofs.Making.{reads_of, synced_behind, synced_then}
-pub use Rattle.rly_disk.proofs.Overwritten.{overwritten_in, overwritten_outside}
 pub use Rattle.rly_disk.proofs.Ranges.{behind, front, part, part-overwritten, same_outside_again, same_range, wider}
 pub use Rattle.rly_disk.proofs.Traces.{makes_front, makes_joined, makes_nothing, seen_joined}
-pub use Rattle.rly_disk.specs.DiskModel.{DiskState, LeavesOnly, overwritten, SameOutside, Settled}
-pub use Rattle.rly_disk.specs.Trace.{AllWrites, DeviceEvent, images_within, Makes, OnlyReads, Read, seen_at_end}
-pub use Rattle.rly_gate.proofs.Appending.{gate_opened, opening_image}
-pub use Rattle.rly_gate.proofs.Durable.{AreWrites, same_bytes, settling_all, settling_last, settling_on, settling_synced, settling_then, settling_writes}
-pub use Rattle.rly_gate.proofs.Durable.{writes_joined}
-pub use Rattle.rly_gate.specs.Calls.{settling}
-pub use Rattle.rly_gate.specs.Group.{IsClosed, IsOpen, open_gate, StandsAt}
+pub use Rattle.rly_gate.proofs.Appending.{AreWrites, gate_opened, opening_image, same_bytes, settling_all, settling_last, settling_on, settling_synced}
+pub use Rattle.rly_gate.proofs.Appending.{settling_then, settling_writes, writes_joined}
+pub use Rattle.rly_gate.proofs.Common.{big_bytes, big_number, IsClosed, IsOpen, open_gate, settling, StandsAt}
+pub use Rattle.rly_gate.proofs.Frames.{gate_and_frame, stands_back, stands_both, stands_front}
 pub use Rattle.rly_machine.specs.Map.{map_hop, map_item, map_state, payloads_of}
 pub use Rattle.rly_machine.specs.Sound.{IsSound}
 pub use Rattle.rly_machine.specs.State.{HopState, live_line, new_hop, new_state, State}
@@ -37,11 +34,9 @@ pub use Rattle.rly_segment.specs.Heads.{generation_in, HoldsHeadOf, IsHeadOf, Is
 unfoldable pub use Rattle.rly_segment.specs.Heads.{head_spelled}
 pub use Rattle.rly_segment.specs.HelpersNewest.{IsFound, IsGreatest, IsReadGate}
 pub use Rattle.rly_segment.specs.HelpersWriting.{Formats, IsClosing, IsUnopened, limits_of, shape_of}
-pub use Rattle.std.proofs.Common.{[], ⊎_elim, ◌*◌, ◌++◌, ◌+◌, ◌-◌, ◌<◌, ◌^◌, ◌↔◌, ◌∙◌, ◌∷◌, ◌≡◌, ◌≤◌, ◌⊎◌, All, ap, arith, below_more, Bool, drop, eqb, false}
-pub use Rattle.std.proofs.Common.{get_or, inl, inr, IsTrue, leb, length, length-append, length-drop, length-take, List, map, None, not, Option, refl, replicate}
-pub use Rattle.std.proofs.Common.{rules, set, slice_range, Some, subst, suc, sym, take, true, zero, ℕ}
+pub use Rattle.std.proofs.Common.{[], ⊎_elim, ◌*◌, ◌++◌, ◌+◌, ◌-◌, ◌<◌, ◌^◌, ◌↔◌, ◌∙◌, ◌∷◌, ◌≡◌, ◌≤◌, ◌⊎◌, All, ap, arith, below_more, Bool, drop, eqb, Err}
+pub use Rattle.std.proofs.Common.{false, flat_map, get_or, IfSome, inl, inr, is_some, IsTrue, leb, length, length-append, length-drop, length-take, List, map}
+pub use Rattle.std.proofs.Common.{None, not, Option, refl, replicate, rules, set, slice_range, Some, subst, suc, sym, take, true, zero, ℕ}
 pub use Rattle.std.proofs.lemmas.Bool.{cases_eq, eqb-false, eqb-true, iff_false, leb-true, not-false}
 pub use Rattle.std.proofs.lemmas.Bool.Decides.{Decides-eqb, Decides-not, nat_tests}
 pub use Rattle.std.proofs.lemmas.List.{append-nil, ext_get_or, get_or-set_same, length-replicate, places}
-pub use Rattle.std.specs.List.{flat_map}
-pub use Rattle.std.specs.Prelude.{Err, IfSome, is_some}

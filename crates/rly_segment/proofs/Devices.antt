@@ -5,11 +5,11 @@ use Rattle.rly_segment.proofs.Common.{header_of, images_within, inl, inr, IsClos
 use Rattle.rly_segment.proofs.Common.{makes_leaves, makes_seen, new_head, not, open_gate, overwritten, overwritten_in, overwritten_outside, part}
 use Rattle.rly_segment.proofs.Common.{part-overwritten, SameOutside, seen_at_end, seen_joined, segment_place, Settled, settling, settling_all, settling_last}
 use Rattle.rly_segment.proofs.Common.{settling_on, settling_synced, StandsAt, suc, synced_behind, synced_then, true, zero, ℕ}
-use Rattle.rly_disk.proofs.TraceRanges.{all_joined, each_all, kept as writes_kept, leaves_kept}
+use Rattle.rly_disk.proofs.Making.{all_joined, each_all, kept as writes_kept, leaves_kept}
 use Rattle.rly_segment.specs.Formatted.{IsFormatted, IsFormatting, IsSameBeside}
 use Rattle.rly_segment.proofs.Gates.{zero_closes}
 use Rattle.rly_segment.proofs.HeadWriting.{new_head_room}
-use Rattle.rly_segment.proofs.HeaderFields.{geometry_read, mark_read, version_read, length-header}
+use Rattle.rly_segment.proofs.HeaderFields.{header_read, length-header}
 use Rattle.rly_segment.proofs.Replacing.{closing_closed, closing_same, closing_then, shut}
 use Rattle.rly_segment.proofs.Segments.{segment_behind, segment_within}
 
@@ -73,8 +73,7 @@ module _ {g : Geometry} {size : ℕ} (geometry : IsLayout g size) where
 
 -- it leaves nothing pending
 pub filling_synced : (g : Geometry) (head : List ℕ) → AreSynced (filling g head)
-filling_synced g head =
-    synced_behind (closing_gates g g.segments) _
+filling_synced g head = synced_behind (closing_gates g g.segments) _
     (synced_behind (settling 65 head) _ (synced_behind (settling 1 (header_of g)) _ (settling_synced 64 (open_gate ∷ []))))
 
 -- ---- what a crash leaves
@@ -111,7 +110,7 @@ module _ (g : Geometry) (closed : Bool) (old : List ℕ) (geometry : IsLayout g 
       let header : StandsAt c 1 (header_of g) = part 0 1 same 1 (length (header_of g)) (inr (omega arith)) ∙ end_filled.0.header in
       let fits : IsLayout g (length c) = rw (same.same_length, end_filled.1) geometry in
       let head = part 0 1 same (segment_place g 0) (length (open_gate ∷ new_head g)) (inr (omega arith)) ∙ end_filled.0.head in
-      search (arith, opened, fits, mark_read g c header, version_read g c header, geometry_read g c header geometry, head, same.each, end_filled.0.others)
+      let read = header_read g c header geometry in search (arith, opened, fits, read.0, read.1, read.2, head, same.each, end_filled.0.others)
 
   -- where the header's gate is closed there is no device
   formatting_image : (c : List ℕ) → images_within (formatting g closed (new_head g)) old (λ d. d ≡ old) c → IsFormatting g old c
@@ -128,8 +127,7 @@ module _ (g : Geometry) (closed : Bool) (old : List ℕ) (geometry : IsLayout g 
       (formatted (overwritten_outside 0 (open_gate ∷ []) end room) (overwritten_in 0 (open_gate ∷ []) end room 0 (omega arith) (omega arith)))
 
 pub formatting_synced : (g : Geometry) (closed : Bool) (head : List ℕ) → AreSynced (formatting g closed head)
-formatting_synced g closed head =
-    synced_behind (closing 0 closed) _ (synced_behind (filling g head) _ (settling_synced 0 (open_gate ∷ [])))
+formatting_synced g closed head = synced_behind (closing 0 closed) _ (synced_behind (filling g head) _ (settling_synced 0 (open_gate ∷ [])))
 
 -- a format's calls were made
 module _ {D : Type 0} {state : D → DiskState} {a b : D} {g : Geometry} {whole : Bool}
@@ -143,14 +141,10 @@ module _ {D : Type 0} {state : D → DiskState} {a b : D} {g : Geometry} {whole 
 
   -- bytes that are no part of a device stay as they are
   pub format_beside : LeavesOnly (state a) (state b) (IsSameBeside g (state a).seen)
-  format_beside =
-      leaves_kept (IsSameBeside g (state a).seen) (IsPart g 0) (λ place n c within beside. omega (arith, within.2, layout.room, beside.same_length))
-      (λ place n c d within beside same. search (arith, within, same, same.each, beside, beside.header, beside.behind))
-      state made.row settled
+  format_beside = leaves_kept (IsSameBeside g (state a).seen) (IsPart g 0) (λ place n c within beside. omega (arith, within.2, layout.room, beside.same_length))
+      (λ place n c d within beside same. search (arith, within, same, same.each, beside, beside.header, beside.behind)) state made.row settled
       (all_joined (IsPart g 0) (closing 0 made.closed) _ (grind arith)
-      (all_joined (IsPart g 0) (filling g (new_head g)) _ (filling_all geometry 0 (omega arith)) (omega arith)))
-      assumption
+      (all_joined (IsPart g 0) (filling g (new_head g)) _ (filling_all geometry 0 (omega arith)) (omega arith))) assumption
 
   pub format_formatted : whole ≡ true → IsFormatted g (state b).seen
-  format_formatted all =
-      rw (makes_seen state (rw all at made.row) settled.honest) (formatting_done g made.closed (state a).seen layout (made.told settled.honest))
+  format_formatted all = rw (makes_seen _ (rw all at made.row) settled.honest) (formatting_done g made.closed (state a).seen layout (made.told settled.honest))

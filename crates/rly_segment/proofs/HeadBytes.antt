@@ -1,11 +1,10 @@
 -- Which state a head holds.
 use Rattle.rly_segment.proofs.Common.{◌++◌, ◌+◌, ◌<◌, ◌^◌, ◌∙◌, ◌≡◌, ◌≤◌, All, ap, arith, big_bytes, drop, Geometry, HaveForms, head_spelled, HeadForm}
-use Rattle.rly_segment.proofs.Common.{HoldsHeadOf, IsIn, IsOfForm, IsSound, length, List, mark_of, segment_place, Spelled, spelled_by, StandsAt, State}
-use Rattle.rly_segment.proofs.Common.{state_spelled, sym, take, ℕ}
+use Rattle.rly_segment.proofs.Common.{HoldsHeadOf, IsIn, IsOfForm, IsSound, length, List, mark_of, segment_place, Spelled, spelled_by, stands_back, stands_both}
+use Rattle.rly_segment.proofs.Common.{stands_front, StandsAt, State, state_spelled, sym, take, ℕ}
 use Rattle.rly_gate.proofs.Holding.{number_once}
 use Rattle.rly_reclaim.specs.Room.{group_room}
 use Rattle.rly_segment.specs.declared.heads.Start.{Start}
-use Rattle.rly_segment.proofs.Standing.{stands_back, stands_both, stands_front}
 
 -- the generation and the length before a body
 abbrev pub start_of : ℕ → ℕ → List ℕ
@@ -45,16 +44,14 @@ module _ {P : Type 0} {len : P → ℕ} (form : HeadForm → P → List ℕ) {im
         → (start.generation ≡ other) × (start.form ≡ v) × (start.length ≡ length (state_spelled len (spelled_by form v) s))
     start_is v holds =
         let its = its_start v read.short holds in
-        let same = sym read.at ∙ its.at in
-        let generation = number_once 8 _ _ read.generation_fits its.generation_fits (ap (take 8) same) in
-        let marked = number_once 4 _ _ (grind (arith, read.length_fits)) (grind (arith, its.length_fits)) (ap (drop 8) same) in
+        let generation = number_once 8 _ _ read.generation_fits its.generation_fits (ap (take 8) (sym read.at ∙ its.at)) in
+        let marked = number_once 4 _ _ (grind (arith, read.length_fits)) (grind (arith, its.length_fits)) (ap (drop 8) (sym read.at ∙ its.at)) in
         grind (arith, generation, marked, read.length_fits, its.length_fits)
 
     module _ {body : List ℕ} (is : body ≡ take start.length (drop (segment_place g segment + 13) image)) where
       -- a head there holds a state that the body spells in the form that was read
-      pub read_as : (HasForm : HeadForm → P → Type 0) (R : State P → Type 0)
-          → ((s : State P) → IsSound len s → All (HaveForms (HasForm start.form)) s.hops → IsOfForm start.form s → s.params ≡ g.params
-          → body ≡ state_spelled len (spelled_by form start.form) s → R s)
+      pub read_as : (HasForm : HeadForm → P → Type 0) (R : State P → Type 0) → ((s : State P) → IsSound len s → All (HaveForms (HasForm start.form)) s.hops
+          → IsOfForm start.form s → s.params ≡ g.params → body ≡ state_spelled len (spelled_by form start.form) s → R s)
           → (v : HeadForm) {other : ℕ} {s : State P} → All (HaveForms (HasForm v)) s.hops → HoldsHeadOf len (spelled_by form v) image g segment other s → R s
       read_as HasForm R only v {s = s} has holds =
           let its = start_is v holds in

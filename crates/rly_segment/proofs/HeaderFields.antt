@@ -14,31 +14,24 @@ module _ (g : Geometry) (image : List ℕ) (stands : StandsAt image 1 (header_of
   field : (k w : ℕ) → k + w ≤ 52 → take w (drop (1 + k) image) ≡ take w (drop k (header_of g))
   field k w within = sym (part_of_front image (header_of g) 1 (length (header_of g)) k w (sym stands) (omega (arith, length-header g)))
 
-  -- the text
-  pub mark_read : StandsAt image 1 device_text
-  unfolding header_of
-  mark_read = field 0 8 (omega arith)
-
   -- a number
   number_read : (k w n : ℕ) → leb (k + w) 52 ≡ true → take w (drop k (header_of g)) ≡ big_bytes w n → n < 256 ^ w → number_in image (1 + k) w ≡ n
   number_read k w n within there fits =
       ap (big_number w) (field k w (leb-true _ _ within) ∙ there ∙ sym (append-nil (big_bytes w n))) ∙ big_number-reads_back w n [] fits
 
-  -- the version, which has a field for the longest payload
-  pub version_read : version_in image ≡ 2
-  unfolding header_of
-  version_read = number_read 8 2 2 refl refl (omega arith)
-
-  -- the geometry
-  pub geometry_read : {size : ℕ} → IsLayout g size → geometry_in image ≡ g
+  -- the text, the version, which has a field for the longest payload, and the geometry
+  pub header_read : {size : ℕ} → IsLayout g size → StandsAt image 1 device_text × (version_in image ≡ 2) × (geometry_in image ≡ g)
   unfolding header_of geometry_in
-  geometry_read geometry =
+  header_read geometry =
       let p : Params = g.params in
+      let version : version_in image ≡ 2 = number_read 8 2 2 refl refl (omega arith) in
+      let named : geometry_in image ≡ g =
       rw (number_read 10 2 p.hops refl refl (omega arith), number_read 12 2 p.peers refl refl (omega arith), number_read 14 2 p.window refl refl (omega arith))
       (rw (number_read 16 2 g.segments refl refl (omega arith), number_read 18 4 g.length refl refl (omega arith))
       (rw (number_read 22 4 p.items refl refl (omega arith), number_read 26 4 p.bytes refl refl (omega arith))
       (rw (number_read 30 4 p.maxpacket refl refl (omega arith), number_read 34 8 p.target refl refl (omega arith))
-      (rw (number_read 42 8 p.interval refl refl (omega arith), version_read, number_read 50 2 p.payload refl refl (omega arith))))))
+      (rw (number_read 42 8 p.interval refl refl (omega arith), version, number_read 50 2 p.payload refl refl (omega arith)))))) in
+      (field 0 8 (omega arith), version, named)
 
 -- ---- the first bytes of a device, which were read
 
@@ -53,11 +46,9 @@ module _ (image front : List ℕ) (at n : ℕ) (is : front ≡ take n (drop at i
 
 -- a device has an open gate, the text and a version, and what was read names its geometry
 pub device_read : (image front : List ℕ) → front ≡ take 53 image → 64 ≤ length image
-    → IsOpen front 0 × StandsAt front 1 device_text × IsIn 1 2 (version_in front)
-    → IsDevice image × (geometry_in front ≡ geometry_in image)
+    → IsOpen front 0 × StandsAt front 1 device_text × IsIn 1 2 (version_in front) → IsDevice image × (geometry_in front ≡ geometry_in image)
 unfolding geometry_in
 device_read image front is long found =
     let gate = sym (gate_at_front image front 0 53 is (omega arith)) ∙ found.0 in
     let mark = sym (part_of_front image front 0 53 1 8 is (omega arith)) ∙ found.1 in
-    let number = number_in_front image front 0 53 is in
-    (search (gate, mark, rw (number 9 2 refl) at found.2), simp number)
+    let number = number_in_front image front 0 53 is in (search (gate, mark, rw (number 9 2 refl) at found.2), simp number)

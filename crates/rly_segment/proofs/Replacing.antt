@@ -1,11 +1,10 @@
 -- What a crash leaves while bytes after a gate are written.
 use Rattle.rly_segment.proofs.Common.{[], ⊎_elim, ◌++◌, ◌+◌, ◌<◌, ◌↔◌, ◌∙◌, ◌∷◌, ◌≡◌, ◌≤◌, ◌⊎◌, AreSynced, AreWrites, arith, behind, Bool, closing, DeviceEvent}
-use Rattle.rly_segment.proofs.Common.{false, front, Geometry, head_spelled, images_within, inl, inr, IsClosed, IsClosing, IsHeadOf, IsLayout, IsOpen}
-use Rattle.rly_segment.proofs.Common.{IsOpeningOf, IsTrue, length, List, open_gate, opened_spelled, opening_image, overwritten, overwritten_outside, refl}
-use Rattle.rly_segment.proofs.Common.{replacing, same_bytes, same_outside_again, same_range, SameOutside, seen_at_end, seen_joined, segment_place, settling}
-use Rattle.rly_segment.proofs.Common.{settling_on, settling_synced, settling_then, settling_writes, Spelled, State, sym, synced_behind, true, wider}
+use Rattle.rly_segment.proofs.Common.{false, front, gate_and_frame, Geometry, head_spelled, images_within, inl, inr, IsClosed, IsClosing, IsHeadOf, IsLayout}
+use Rattle.rly_segment.proofs.Common.{IsOpen, IsOpeningOf, IsTrue, length, List, open_gate, opened_spelled, opening_image, overwritten, overwritten_outside}
+use Rattle.rly_segment.proofs.Common.{refl, replacing, same_bytes, same_outside_again, same_range, SameOutside, seen_at_end, seen_joined, segment_place}
+use Rattle.rly_segment.proofs.Common.{settling, settling_on, settling_synced, settling_then, settling_writes, Spelled, State, sym, synced_behind, true, wider}
 use Rattle.rly_segment.proofs.Common.{writes_joined, ℕ}
-use Rattle.rly_gate.proofs.Frames.{gate_and_frame}
 use Rattle.rly_segment.proofs.Gates.{zero_closes}
 use Rattle.rly_segment.proofs.HeadWriting.{head_room}
 use Rattle.rly_segment.proofs.Segments.{segment_within}
@@ -25,8 +24,7 @@ module _ (place : ℕ) (old : List ℕ) where
 
   -- a crash while a gate is closed, or in what is made after it. Where it is open in two lists that are the same beside it, they are one
   pub closing_then : (closed : Bool) (rest : List DeviceEvent) (c : List ℕ) → (IsTrue closed ↔ IsClosed old place)
-      → images_within (closing place closed ++ rest) old (λ d. d ≡ old) c
-      → IsClosing place old c ⊎ images_within rest (shut closed) (λ d. d ≡ shut closed) c
+      → images_within (closing place closed ++ rest) old (λ d. d ≡ old) c → IsClosing place old c ⊎ images_within rest (shut closed) (λ d. d ≡ shut closed) c
   closing_then true rest c told image = ⊎_elim (λ is. inl (record { outside = same_bytes place 1 old c is; gate = λ opened. is })) (λ later. inr later) image
   closing_then false rest c told image =
       let was : IsOpen old place = grind (arith, told.1) in
@@ -35,8 +33,7 @@ module _ (place : ℕ) (old : List ℕ) where
       ⊎_elim (λ same. inl (record { outside = same; gate = kept same })) (λ then. inr then) (settling_then place (0 ∷ []) rest old c image)
 
 pub replacing_synced : (place : ℕ) (closed : Bool) (behind : List ℕ) → AreSynced (replacing place closed behind)
-replacing_synced place closed behind =
-    synced_behind (closing place closed) _ (synced_behind (settling (place + 1) behind) _ (settling_synced place (open_gate ∷ [])))
+replacing_synced place closed row = synced_behind (closing place closed) _ (synced_behind (settling (place + 1) row) _ (settling_synced place (open_gate ∷ [])))
 
 -- ---- the opening of a segment
 

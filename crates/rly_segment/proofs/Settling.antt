@@ -1,8 +1,8 @@
 -- The payloads of a head that it has inline, where they lie.
 use Rattle.rly_segment.proofs.Common.{[], ◌*◌, ◌++◌, ◌+◌, ◌-◌, ◌∙◌, ◌∷◌, ◌≡◌, arith, big_bytes, codel_of, entry_spelled, entry_width, First, flat_map, Geometry}
 use Rattle.rly_segment.proofs.Common.{HeadForm, HoldsHeadOf, hop_spelled, hop_width, HopState, Inline, IsSound, length, length-numbers, List, live_line, map}
-use Rattle.rly_segment.proofs.Common.{map_hop, map_item, map_state, payload_in, refl, Second, segment_place, slice_range, StandsAt, State, state_in}
-use Rattle.rly_segment.proofs.Common.{state_spelled, Stored, stored_length, stored_spelled, sym, take, ℕ}
+use Rattle.rly_segment.proofs.Common.{map_hop, map_item, map_state, payload_in, refl, Second, segment_place, slice_range, stands_back, stands_front, StandsAt}
+use Rattle.rly_segment.proofs.Common.{State, state_in, state_spelled, Stored, stored_length, stored_spelled, sym, take, ℕ}
 use Rattle.rly_machine.proofs.Alike.{bytes_alike, sound_alike}
 use Rattle.rly_machine.specs.declared.hop.Item.{Item}
 use Rattle.rly_places.proofs.Weights.{bytes_none}
@@ -10,7 +10,6 @@ use Rattle.rly_places.specs.Room.{inline_bytes, inline_length}
 use Rattle.rly_segment.specs.Settling.{settled, settled_hops, settled_items, settled_state}
 use Rattle.std.proofs.lemmas.Grind.{flat_map-append}
 use Rattle.rly_segment.proofs.HeadBytes.{head_parts}
-use Rattle.rly_segment.proofs.Standing.{stands_back, stands_front}
 
 abbrev entry : HeadForm → Item Stored → List ℕ
 entry which = entry_spelled stored_length (stored_spelled which)
@@ -22,8 +21,7 @@ spelled_hop which = hop_spelled stored_length (stored_spelled which)
 
 module _ (Stands : ℕ → List ℕ → Type 0) (parts : (at : ℕ) (a b : List ℕ) → Stands at (a ++ b) → Stands at a × Stands (at + length a) b) where
   -- a hop's entries stand behind its numbers
-  lines_stand : (which : HeadForm) (at : ℕ) (h : HopState Stored) → Stands at (spelled_hop which h)
-      → Stands (at + hop_width which) (flat_map (entry which) (live_line h))
+  lines_stand : (which : HeadForm) (at : ℕ) (h : _) → Stands at (spelled_hop which h) → Stands (at + hop_width which) (flat_map (entry which) (live_line h))
   unfolding hop_spelled codel_of
   lines_stand First at h stands = (parts at (take 71 (spelled_hop First h)) (flat_map (entry First) (live_line h)) stands).1
   lines_stand Second at h stands = (parts at (take 64 (spelled_hop Second h)) (flat_map (entry Second) (live_line h)) stands).1
@@ -73,8 +71,7 @@ settled_in Second image at id stamp limit (Inline (byte ∷ bytes)) stands =
 settled_in which image at id stamp limit p stands = refl
 
 pub settled_stands : (which : HeadForm) (image : List ℕ) (g : Geometry) (segment generation : ℕ) (s : State Stored)
-    → HoldsHeadOf stored_length (stored_spelled which) image g segment generation s
-    → state_in image (settled_state which g segment s) ≡ state_in image s
+    → HoldsHeadOf stored_length (stored_spelled which) image g segment generation s → state_in image (settled_state which g segment s) ≡ state_in image s
 unfolding state_spelled
 settled_stands which image g segment generation s holds =
     let place : ℕ = segment_place g segment + 13 in
@@ -88,8 +85,7 @@ settled_stands which image g segment generation s holds =
 
 module _ (which : HeadForm) (g : Geometry) (segment : ℕ) (s : State Stored) where
   -- wherever it stands
-  anywhere : {A : Type 0} (f f' : Stored → A) → ((at : ℕ) (p : Stored) → f (settled at p) ≡ f' p)
-      → map_state f (settled_state which g segment s) ≡ map_state f' s
+  anywhere : {A : Type 0} (f f' : Stored → A) → ((at : ℕ) (p : _) → f (settled at p) ≡ f' p) → map_state f (settled_state which g segment s) ≡ map_state f' s
   anywhere f f' same = maps_settled (λ at bytes. Unit {0}) (λ at a b all. (tt, tt)) which f f' (λ at item all. same _ item.payload) g segment s tt
 
   pub head_lengths : map_state stored_length (settled_state which g segment s) ≡ map_state stored_length s
@@ -99,6 +95,4 @@ module _ (which : HeadForm) (g : Geometry) (segment : ℕ) (s : State Stored) wh
   settled_sound = sound_alike stored_length stored_length s (settled_state which g segment s) (sym head_lengths)
 
   pub settled_inline : inline_bytes (settled_state which g segment s) ≡ 0
-  settled_inline =
-      bytes_alike inline_length (λ p. 0) (settled_state which g segment s) s (anywhere inline_length (λ p. 0) (λ at p. grind arith))
-      ∙ bytes_none (λ p. 0) (λ p. refl) s
+  settled_inline = bytes_alike inline_length (λ p. 0) _ s (anywhere inline_length (λ p. 0) (λ at p. grind arith)) ∙ bytes_none (λ p. 0) (λ p. refl) s

@@ -1,5 +1,5 @@
 use Rattle.rly_disk.proofs.Common.{arith, same_outside_again, SameOutside, wider, ◌+◌, ◌≤◌}
-use Rattle.rly_disk.proofs.TraceRanges.{leaves_kept}
+use Rattle.rly_disk.proofs.Making.{leaves_kept}
 use Rattle.rly_disk.proofs.laws.law_range.Goals as goal
 
 pub returns : goal.returns

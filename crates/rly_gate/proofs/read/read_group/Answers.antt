@@ -1,19 +1,19 @@
-use Rattle.rly_gate.proofs.Common.{[], ap, arith, drop, Err, HoldsGroup, length-drop, length-take, List, Makes, makes_front, not-false, quiet_new, Read, refl}
-use Rattle.rly_gate.proofs.Common.{rules, take, true, ℕ, ◌+◌, ◌∷◌, ◌≡◌}
+use Rattle.rly_gate.proofs.Common.{[], ap, arith, drop, Err, HoldsGroup, le-leb, length-drop, length-take, List, Makes, makes_front, makes_joined, not-false}
+use Rattle.rly_gate.proofs.Common.{quiet_new, Read, refl, rules, take, true, ℕ, ◌+◌, ◌∷◌, ◌≡◌, ◌≤◌}
 use Rattle.std.proofs.lemmas.Result.{err_from_is_err_and}
 use Rattle.rly_gate.proofs.Holding.{holds}
-use Rattle.rly_gate.proofs.Rereading.{group_body_read, group_cut, group_length_read}
-use Rattle.rly_gate.proofs.read.read_group.Given.{Over}
+use Rattle.rly_gate.proofs.Rereading.{group_cut}
 use Rattle.rly_gate.proofs.read.read_group.Goals.{In_ok-length}
 use Rattle.rly_gate.proofs.read.read_group.Goals as goal
 
 -- the gate is open, and the length was read
-length_made : (g : Over) (c : In_ok-length g)
-    → Makes g.D.Disk.state (Read c.args.at 1 ∷ Read (c.args.at + 1) 4 ∷ []) true c.args.disk.now c.read_length.new.disk
-length_made g c = group_length_read c.args.end (omega (arith, c.in_ok-length.ensures.within)) c.in-Ok.ensures.trace c.in_ok-length.ensures.trace
+length_made : (g : _) (c : In_ok-length g) → Makes g.D.Disk.state (Read c.args.at 1 ∷ Read (c.args.at + 1) 4 ∷ []) true c.args.disk.now c.read_length.new.disk
+length_made g c =
+    let fits : c.args.at + 6 ≤ c.args.end = omega (arith, c.in_ok-length.ensures.within) in
+    makes_joined g.D.Disk.state _ _ true c.in-Ok.ensures.trace (rw (le-leb (c.args.at + 6) c.args.end fits) at c.in_ok-length.ensures.trace)
 
 -- so many bytes behind it are the body of a group
-body_held : (g : Over) (c : In_ok-length g) → (g.D.Disk.state c.args.disk.now).honest → {body : List ℕ}
+body_held : (g : _) (c : In_ok-length g) → (g.D.Disk.state c.args.disk.now).honest → {body : List ℕ}
     → body ≡ take c.in_ok-length.length (drop (c.args.at + 5) (g.D.Disk.state c.args.disk.now).seen)
     → HoldsGroup (g.D.Disk.state c.args.disk.now).seen c.args.at c.args.end body
 body_held g c honest is =
@@ -42,11 +42,11 @@ returns-in_default-clause-trace g c = (0, makes_front g.D.Disk.state (Read c.arg
 
 pub returns-in_err-length-clause-trace : goal.returns-in_err-length-clause-trace
 returns-in_err-length-clause-trace g c =
-    let told = err_from_is_err_and c.from_residual.result c.from_residual.ensures.1 in
-    rw (told.1, told.2)
-    (group_cut ℕ c.args.end _ (λ refused. c.in_err-length.ensures.memory (ap Err refused)) c.in-Ok.ensures.trace c.in_err-length.ensures.trace)
+    let is = err_from_is_err_and c.from_residual.result c.from_residual.ensures.1 in
+    rw (is.1, is.2) (group_cut ℕ c.args.end _ (λ refused. c.in_err-length.ensures.memory (ap Err refused)) c.in-Ok.ensures.trace c.in_err-length.ensures.trace)
 
 pub returns-in-Err-Device-clause-trace : goal.returns-in-Err-Device-clause-trace
 returns-in-Err-Device-clause-trace g c =
     let made = length_made g (goal.at.returns-in-Err-Device-clause-trace g c).In_ok-length in
-    (_, group_body_read made (rw c.in-Err-Device.field-0-is at c.in-Err-Device.ensures.trace))
+    let place : c.args.at + 1 + 4 ≡ c.args.at + 5 = omega arith in
+    (c.in_ok-length.length, makes_joined g.D.Disk.state _ _ _ made (rw (c.in-Err-Device.field-0-is, place) at c.in-Err-Device.ensures.trace))

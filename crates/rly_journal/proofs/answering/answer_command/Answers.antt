@@ -1,8 +1,5 @@
-use Rattle.std.proofs.Common.{◌≡◌, ◌+◌, ◌<◌, ◌^◌, ◌∙◌, arith, ap, inl, inr, length, map, refl, sym}
-use Rattle.std.proofs.lemmas.List.{map_push}
-use Rattle.rly_journal.proofs.Common.{group_body, place_after, placed_alike, placed_at, record_length, record_place, same_reply}
-use Rattle.rly_record.specs.Spelling.{IsRecordable, IsShort}
-use Rattle.rly_record.proofs.Bodies.{recordable_short}
+use Rattle.rly_journal.proofs.Common.{ap, arith, group_body, inl, inr, IsRecordable, IsShort, length, map, map_push, place_after, placed_alike, placed_at}
+use Rattle.rly_journal.proofs.Common.{record_length, record_place, recordable_short, refl, same_reply, sym, ◌+◌, ◌<◌, ◌^◌, ◌∙◌, ◌≡◌}
 use Rattle.rly_journal.proofs.Outcomes.{place_small, placed_wants, room_there, staged_brought, staged_left, staged_taken}
 use Rattle.rly_journal.proofs.Redone.{IsStepped, stepped}
 use Rattle.rly_journal.proofs.answering.answer_command.Goals.{After-apply-reply, After-len, After-record_len, then-is_accepted, else-is_accepted}
@@ -50,9 +47,8 @@ apply-reply-requires-clause-brought c = λ _.
     (staged_brought c.requires c.law_index.ensures.holds c.args.command (short at_call.After-len))
 
 -- what became of it in the index
-one : (c : After-apply-reply)
-    → IsStepped c.args.index.now c.apply-reply.new.self (placed_at (record_place c.args.gate c.args.group.now) c.args.command) c.apply-reply.result
-    (record_place c.args.gate c.args.group.now + record_length length c.args.command)
+one : (c : After-apply-reply) → let place = record_place c.args.gate c.args.group.now in
+    IsStepped c.args.index.now c.apply-reply.new.self (placed_at place c.args.command) c.apply-reply.result (place + record_length length c.args.command)
 one c =
     let by = c.apply-reply.ensures in
     rw (← ends (goal.at.After-apply-reply c).After-record_len)

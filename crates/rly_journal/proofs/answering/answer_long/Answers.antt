@@ -1,7 +1,5 @@
-use Rattle.std.proofs.Common.{◌≡◌, ◌∙◌, [], ap, arith, false, inl, length, List, sym, ℕ}
-use Rattle.rly_journal.proofs.Common.{false≢true, Inline, is_accepted, IsAlike, map_command, map_state, same_reply, shown_in, sound_alike, State, step}
-use Rattle.rly_journal.proofs.Common.{stored_length, unaccepted}
-use Rattle.rly_grouping.proofs.Records.{inline_alike}
+use Rattle.rly_journal.proofs.Common.{[], ap, arith, false, false≢true, inl, Inline, inline_alike, is_accepted, IsAlike, length, List, map_command, map_state}
+use Rattle.rly_journal.proofs.Common.{same_reply, shown_in, sound_alike, State, step, stored_length, sym, unaccepted, ℕ, ◌∙◌, ◌≡◌}
 use Rattle.rly_standing.proofs.Serving.{long_leaves}
 use Rattle.rly_journal.proofs.Opening.{shown_alike}
 use Rattle.rly_journal.proofs.Outcomes.{needs_accepts}

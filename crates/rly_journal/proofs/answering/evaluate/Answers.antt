@@ -1,15 +1,11 @@
-use Rattle.std.proofs.Common.{◌≡◌, [], ◌∷◌, ◌-◌, ◌∙◌, ap, arith, length, length-append, vec_len}
-use Rattle.std.proofs.lemmas.List.{take_all}
-use Rattle.rly_journal.proofs.Common.{append-nil, drain_items}
+use Rattle.rly_journal.proofs.Common.{[], ap, append-nil, arith, drain_items, length, length-append, take_all, vec_len, ◌-◌, ◌∙◌, ◌∷◌, ◌≡◌}
 use Rattle.rly_journal.proofs.Evaluating.{evaluating_grouping, evaluating_next, evaluating_none}
 use Rattle.rly_journal.proofs.answering.evaluate.Goals as goal
 
 pub loop-call-init : goal.loop-call-init
 loop-call-init c =
-    let calls = c.args.calls.now.items in
-    let rest : drain_items c.into_iter-call-iterator.result ≡ calls =
-    ap drain_items c.into_iter-call-iterator.ensures.into_iter_gives ∙ c.drain-call-items.ensures.rest
-    ∙ take_all (vec_len c.args.calls.now - 0) calls (omega (arith, c.args.calls.now.ok.0)) in
+    let rest = ap drain_items c.into_iter-call-iterator.ensures.into_iter_gives ∙ c.drain-call-items.ensures.rest
+    ∙ take_all (vec_len c.args.calls.now - 0) c.args.calls.now.items (omega (arith, c.args.calls.now.ok.0)) in
     search (arith, evaluating_none, rest, c.requires.empty, c.requires.used, c.requires.none, c.requires.room)
 
 pub loop-call-preserved : goal.loop-call-preserved

@@ -1,5 +1,4 @@
-use Rattle.std.proofs.Common.{◌≡◌, ◌+◌, ◌≤◌, length, map, vec_capacity}
-use Rattle.rly_journal.proofs.Common.{drain_items}
+use Rattle.rly_journal.proofs.Common.{drain_items, length, map, vec_capacity, ◌+◌, ◌≡◌, ◌≤◌}
 use Rattle.rly_journal.proofs.Evaluating.{IsEvaluating}
 use Rattle.rly_journal.proofs.answering.evaluate.Given as goal
 

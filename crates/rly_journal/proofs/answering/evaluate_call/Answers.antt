@@ -1,4 +1,4 @@
-use Rattle.std.proofs.Common.{◌∙◌, ap}
+use Rattle.rly_journal.proofs.Common.{ap, ◌∙◌}
 use Rattle.rly_journal.proofs.Outcomes.{command_outcome}
 use Rattle.rly_journal.proofs.answering.evaluate_call.Goals as goal
 

@@ -1,5 +1,4 @@
-use Rattle.std.proofs.Common.{◌≡◌, ◌+◌, ◌≤◌, ◌++◌, length, vec_capacity}
-use Rattle.rly_journal.proofs.Common.{drain_items, refusals}
+use Rattle.rly_journal.proofs.Common.{drain_items, length, refusals, vec_capacity, ◌++◌, ◌+◌, ◌≡◌, ◌≤◌}
 use Rattle.rly_journal.proofs.answering.refuse_calls.Given as goal
 
 abbrev pub invariant-loop-call : goal.invariant-loop-call

@@ -1,5 +1,4 @@
-use Rattle.std.proofs.Common.{refl, rules}
-use Rattle.rly_journal.proofs.Common.{IsRefused, only_made, opening_broken, read_again, read_all, read_broken, sync_broken}
+use Rattle.rly_journal.proofs.Common.{IsRefused, only_made, opening_broken, read_again, read_all, read_broken, refl, rules, sync_broken}
 use Rattle.rly_journal.proofs.journal.begin.Goals as goal
 
 pub returns-in_default-clause-trace : goal.returns-in_default-clause-trace
@@ -7,8 +6,7 @@ returns-in_default-clause-trace g c = sync_broken g.D.Disk.state (search rules)
 
 pub returns-in-Err-clause-refused : goal.returns-in-Err-clause-refused
 returns-in-Err-clause-refused g c =
-    let synced = only_made g.D.Disk.state g.met.D.Disk.consistent refl c.in-Ok.ensures.trace in
-    read_again (λ image. IsRefused image c.in-Err.fault) synced c.in-Err.ensures.refused
+    read_again (λ image. IsRefused image c.in-Err.fault) (only_made g.D.Disk.state g.met.D.Disk.consistent refl c.in-Ok.ensures.trace) c.in-Err.ensures.refused
 
 pub returns-in-Err-clause-trace : goal.returns-in-Err-clause-trace
 returns-in-Err-clause-trace g c = read_broken g.D.Disk.state c.in-Ok.ensures.trace c.in-Err.ensures.trace

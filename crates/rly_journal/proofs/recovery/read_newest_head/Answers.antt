@@ -1,9 +1,7 @@
-use Rattle.std.proofs.Common.{Ok, inl}
-use Rattle.rly_journal.proofs.Common.{gates_broken, gates_made, head_unread, header_broken, IsAmbiguous, IsReadNewest, read_again}
+use Rattle.rly_journal.proofs.Common.{gates_broken, gates_made, head_unread, header_broken, inl, IsAmbiguous, IsReadNewest, Ok, read_again}
 use Rattle.rly_gate.proofs.Rereading.{only_read}
 use Rattle.rly_segment.proofs.Looking.{header_only}
 use Rattle.rly_journal.proofs.Recovering.{IsLooked, head_read, head_starved, headless}
-use Rattle.rly_journal.proofs.recovery.read_newest_head.Given.{Over}
 use Rattle.rly_journal.proofs.recovery.read_newest_head.Goals.{In-Ok-newest}
 use Rattle.rly_journal.proofs.recovery.read_newest_head.Goals as goal
 
@@ -11,18 +9,15 @@ use Rattle.rly_journal.proofs.recovery.read_newest_head.Goals as goal
 
 pub returns-in-Err-NotADevice : goal.returns-in-Err-NotADevice
 returns-in-Err-NotADevice g c =
-    let by = rw c.in-Err-NotADevice.field-0-is at c.in-Err-NotADevice.ensures in
-    record { refused = by.read; trace = header_broken _ by.trace }
+    let by = rw c.in-Err-NotADevice.field-0-is at c.in-Err-NotADevice.ensures in record { refused = by.read; trace = header_broken _ by.trace }
 
 pub returns-in-Err-BadGeometry : goal.returns-in-Err-BadGeometry
 returns-in-Err-BadGeometry g c =
-    let by = rw c.in-Err-BadGeometry.field-0-is at c.in-Err-BadGeometry.ensures in
-    record { refused = by.read; trace = header_broken _ by.trace }
+    let by = rw c.in-Err-BadGeometry.field-0-is at c.in-Err-BadGeometry.ensures in record { refused = by.read; trace = header_broken _ by.trace }
 
 pub returns-in-Err-Device : goal.returns-in-Err-Device
 returns-in-Err-Device g c =
-    let by = rw c.in-Err-Device.field-0-is at c.in-Err-Device.ensures in
-    record { refused = by.read; trace = header_broken _ by.trace }
+    let by = rw c.in-Err-Device.field-0-is at c.in-Err-Device.ensures in record { refused = by.read; trace = header_broken _ by.trace }
 
 -- ---- the generations
 
@@ -32,31 +27,23 @@ returns-in-Err-Damaged g c =
     let only = only_read g.D.Disk.state g.met.D.Disk.consistent (header_only g.D.Disk.state _ c.in-Ok.ensures.trace) in
     let again = read_again (λ image. IsAmbiguous image c.in-Ok.geometry c.in-Err-Damaged.place) only by.read in
     record {
-      refused = λ honest.
-          let header = c.in-Ok.ensures.read honest in
-          rw (c.in-Err-Damaged.field-0-is, ← header.1) (header.0, header.2, inl (again honest));
+      refused = λ honest. let header = c.in-Ok.ensures.read honest in rw (c.in-Err-Damaged.field-0-is, ← header.1) (header.0, header.2, inl (again honest));
       trace = gates_broken c.in-Ok.geometry (gates_made _ _ c.in-Ok.ensures.geometry c.in-Ok.ensures.trace by.trace);
     }
 
 pub returns-in-Err-Device-newest : goal.returns-in-Err-Device-newest
 returns-in-Err-Device-newest g c =
     let by = rw c.in-Err-Device-newest.field-0-is at c.in-Err-Device-newest.ensures in
-    let made = gates_made _ _ c.in-Ok.ensures.geometry c.in-Ok.ensures.trace by.trace in
-    record { refused = λ honest. tt; trace = gates_broken c.in-Ok.geometry made }
+    record { refused = λ honest. tt; trace = gates_broken c.in-Ok.geometry (gates_made _ _ c.in-Ok.ensures.geometry c.in-Ok.ensures.trace by.trace) }
 
 -- ---- the head
 
-looked : (g : Over) (c : In-Ok-newest g) → IsLooked g.D.Disk.state c.in-Ok.geometry c.in-Ok-newest.newest c.args.disk.now c.newest.new.disk
+looked : (g : _) (c : In-Ok-newest g) → IsLooked g.D.Disk.state c.in-Ok.geometry c.in-Ok-newest.newest c.args.disk.now c.newest.new.disk
 looked g c =
-    let header = c.in-Ok.ensures in
-    let only = only_read g.D.Disk.state g.met.D.Disk.consistent (header_only g.D.Disk.state _ header.trace) in
-    record {
-      layout = header.geometry;
-      there = c.in-Ok-newest.ensures.within;
-      header = header.read;
-      newest = read_again (λ image. IsReadNewest image c.in-Ok.geometry (Ok c.in-Ok-newest.newest)) only c.in-Ok-newest.ensures.read;
-      made = gates_made _ _ header.geometry header.trace c.in-Ok-newest.ensures.trace;
-    }
+    let header = c.in-Ok.ensures in let only = only_read g.D.Disk.state g.met.D.Disk.consistent (header_only g.D.Disk.state _ header.trace) in
+    let newest = read_again (λ image. IsReadNewest image c.in-Ok.geometry (Ok c.in-Ok-newest.newest)) only c.in-Ok-newest.ensures.read in
+    let made = gates_made _ _ header.geometry header.trace c.in-Ok-newest.ensures.trace in
+    record { layout = header.geometry; there = c.in-Ok-newest.ensures.within; header = header.read; newest = newest; made = made }
 
 pub returns-in-Err-OutOfMemory : goal.returns-in-Err-OutOfMemory
 returns-in-Err-OutOfMemory g c =

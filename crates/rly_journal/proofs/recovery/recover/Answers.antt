@@ -3,8 +3,7 @@ use Rattle.rly_journal.proofs.recovery.recover.Goals as goal
 
 pub returns-in_err-found : goal.returns-in_err-found
 returns-in_err-found g c =
-    let told = err_from_is_err_and c.from_residual.result c.from_residual.ensures.1 in
-    rw (told.1, told.2) c.in_err-found.ensures
+    let told = err_from_is_err_and c.from_residual.result c.from_residual.ensures.1 in rw (told.1, told.2) c.in_err-found.ensures
 
 pub returns-in_err-replay_group : goal.returns-in_err-replay_group
 returns-in_err-replay_group g c =

@@ -1,5 +1,4 @@
-use Rattle.std.proofs.Common.{◌-◌, ◌^◌}
-use Rattle.rly_journal.proofs.Common.{IsReading}
+use Rattle.rly_journal.proofs.Common.{IsReading, ◌-◌, ◌^◌}
 use Rattle.rly_journal.proofs.recovery.recover.Given as goal
 
 abbrev pub invariant-groups : goal.invariant-groups

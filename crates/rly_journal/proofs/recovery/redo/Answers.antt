@@ -1,5 +1,4 @@
-use Rattle.std.proofs.Common.{◌≡◌, ◌+◌, ◌∙◌, ap, false, rules, sym, true}
-use Rattle.rly_journal.proofs.Common.{placed_at}
+use Rattle.rly_journal.proofs.Common.{ap, false, placed_at, rules, sym, true, ◌+◌, ◌∙◌, ◌≡◌}
 use Rattle.rly_journal.proofs.Redone.{IsStepped, redoing_brought, redoing_next, redoing_refused, stepped}
 use Rattle.rly_journal.proofs.recovery.redo.Goals.{After-apply}
 use Rattle.rly_journal.proofs.recovery.redo.Goals as goal
@@ -23,9 +22,7 @@ returns-then-not-is_accepted c =
 
 pub loop-command-preserved : goal.loop-command-preserved
 loop-command-preserved c =
-    let told : c.is_accepted.result ≡ true = search rules in (
-      tt,
-      tt,
-      redoing_next c.loop-command.invariant.2 c.in-Some.ensures.steps.0 (one (goal.at.loop-command-preserved c).After-apply)
-          (sym c.is_accepted.ensures ∙ told) (ap (λ n. c.loop-command.place + n) c.record_len.ensures),
-    )
+    let told : c.is_accepted.result ≡ true = search rules in
+    let next = redoing_next c.loop-command.invariant.2 c.in-Some.ensures.steps.0 (one (goal.at.loop-command-preserved c).After-apply)
+    (sym c.is_accepted.ensures ∙ told) (ap (λ n. c.loop-command.place + n) c.record_len.ensures) in
+    (tt, tt, next)

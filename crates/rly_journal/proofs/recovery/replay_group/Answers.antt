@@ -1,8 +1,7 @@
-use Rattle.std.proofs.Common.{◌≡◌, ap, arith, false, length, rules, sym, true, ℕ, ◌∙◌}
-use Rattle.rly_journal.proofs.Common.{body_of, broken_body, err_from_is_err_and, front_all, group_broken, group_scan, MakesFront}
+use Rattle.rly_journal.proofs.Common.{ap, arith, body_of, broken_body, err_from_is_err_and, false, front_all, group_broken, group_scan, length, MakesFront}
+use Rattle.rly_journal.proofs.Common.{rules, sym, true, ℕ, ◌∙◌, ◌≡◌}
 use Rattle.rly_gate.specs.declared.read.GroupFault.TheVariants.{OutOfMemory, Damaged, Device}
 use Rattle.rly_journal.proofs.Recovering.{all_read, damaged, given_up, read_on, starved, unaccepted}
-use Rattle.rly_journal.proofs.recovery.replay_group.Given.{Over}
 use Rattle.rly_journal.proofs.recovery.replay_group.Goals.{In-Ok-Some}
 use Rattle.rly_journal.proofs.recovery.replay_group.Goals as goal
 
@@ -16,8 +15,7 @@ redo-requires-clause-room g c =
 
 pub returns-in-Ok-None-clause-read : goal.returns-in-Ok-None-clause-read
 returns-in-Ok-None-clause-read g c start so_far =
-    let by = rw c.in-Ok-None.field-0-is at c.in-Ok-None.ensures in
-    all_read g.met.D.Disk.consistent so_far by.read by.trace.1
+    let by = rw c.in-Ok-None.field-0-is at c.in-Ok-None.ensures in all_read g.met.D.Disk.consistent so_far by.read by.trace.1
 
 pub returns-in-Err-OutOfMemory-clause-read : goal.returns-in-Err-OutOfMemory-clause-read
 returns-in-Err-OutOfMemory-clause-read g c start so_far =
@@ -37,7 +35,7 @@ returns-in-Err-Device-clause-read g c start so_far =
 
 -- ---- the group was read, and isn't made again
 
-whole : (g : Over) (c : In-Ok-Some g) → (n : ℕ) × MakesFront g.D.Disk.state (group_scan c.args.found.now.tail.gate n) true c.args.disk.now c.read_group.new.disk
+whole : (g : _) (c : In-Ok-Some g) → (n : ℕ) × MakesFront g.D.Disk.state (group_scan c.args.found.now.tail.gate n) true c.args.disk.now c.read_group.new.disk
 whole g c = (_, front_all g.D.Disk.state (rw c.in-Ok-Some.field-0-is at c.in-Ok-Some.ensures.trace).1)
 
 pub returns-in-Err-OutOfMemory-read_body-clause-read : goal.returns-in-Err-OutOfMemory-read_body-clause-read
@@ -46,8 +44,7 @@ returns-in-Err-OutOfMemory-read_body-clause-read g c start so_far =
 
 pub returns-in_err-is_redone-clause-read : goal.returns-in_err-is_redone-clause-read
 returns-in_err-is_redone-clause-read g c start so_far =
-    let told = err_from_is_err_and c.from_residual.result c.from_residual.ensures.1 in
-    rw (told.1, told.2, c.in_err-is_redone.ensures)
+    let told = err_from_is_err_and c.from_residual.result c.from_residual.ensures.1 in rw (told.1, told.2, c.in_err-is_redone.ensures)
     (starved g.met.D.Disk.consistent so_far (whole g (goal.at.returns-in_err-is_redone-clause-read g c).In-Ok-Some))
 
 pub returns-in-Err-Malformed-clause-read : goal.returns-in-Err-Malformed-clause-read
@@ -59,8 +56,7 @@ returns-in-Err-Malformed-clause-read g c start so_far =
 pub returns-then-not-is_redone-clause-read : goal.returns-then-not-is_redone-clause-read
 returns-then-not-is_redone-clause-read g c start so_far =
     let by = rw (c.in-Ok-Some.field-0-is, c.segment_end-end.ensures) at c.in-Ok-Some.ensures in
-    let told : c.in_ok-is_redone.is_redone ≡ false = search rules in
-    let refused = rw told at c.in_ok-is_redone.ensures in
+    let told : c.in_ok-is_redone.is_redone ≡ false = search rules in let refused = rw told at c.in_ok-is_redone.ensures in
     unaccepted g.met.D.Disk.consistent so_far c.law_index.ensures.holds _ by.read
     (λ commands have spelled accepted. refused (rw (c.in-Ok.ensures.only commands have (c.deref.ensures.value ∙ spelled)) accepted)) by.trace.1
 
@@ -68,10 +64,8 @@ returns-then-not-is_redone-clause-read g c start so_far =
 
 pub returns-clause-read : goal.returns-clause-read
 returns-clause-read g c start so_far =
-    let told : c.in_ok-is_redone.is_redone ≡ true = search rules in
-    let spelled = sym c.deref.ensures.value ∙ c.in-Ok.ensures.found in
+    let told : c.in_ok-is_redone.is_redone ≡ true = search rules in let spelled = sym c.deref.ensures.value ∙ c.in-Ok.ensures.found in
     let by = rw (c.in-Ok-Some.field-0-is, c.segment_end-end.ensures) at c.in-Ok-Some.ensures in
     let size : c.len.result ≡ length (body_of c.in-Ok.commands.items) = omega (arith, c.len.ensures, ap length spelled) in
-    rw size
-    (read_on g.met.D.Disk.consistent so_far c.law_index.ensures.holds c.in-Ok.commands.items c.in-Ok.ensures.commands
+    rw size (read_on g.met.D.Disk.consistent so_far c.law_index.ensures.holds c.in-Ok.commands.items c.in-Ok.ensures.commands
     (omega (arith, by.within, ap length spelled)) (rw spelled at by.read) (rw told at c.in_ok-is_redone.ensures) (rw spelled at by.trace.1))

@@ -1,17 +1,12 @@
-use Rattle.std.proofs.Common.{ap, arith, false, rules, true}
-use Rattle.rly_journal.proofs.Common.{drawing_for, front_all, Makes, Renewal, renewed}
-use Rattle.rly_disk.proofs.Traces.{makes_joined}
-use Rattle.rly_drawing.proofs.Blank.{same_spelled}
-use Rattle.rly_journal.proofs.Readying.{headless, opened_renewing, starved, unread_front}
-use Rattle.rly_journal.proofs.Renewed.{IsChosen, IsDrawn, copy_forms, copy_head, undrawn, victim_there}
-use Rattle.rly_journal.proofs.Rows.{two_tried}
-use Rattle.rly_journal.proofs.tail.renew.Given.{Over}
+use Rattle.rly_journal.proofs.Common.{ap, arith, drawing_for, false, front_all, Makes, makes_joined, Renewal, renewed, rules, same_spelled, true}
+use Rattle.rly_journal.proofs.Renewed.{copy_forms, copy_head, headless, IsChosen, IsDrawn, opened_renewing, starved, undrawn, unread_front, victim_there}
+use Rattle.rly_journal.proofs.Counted.{two_tried}
 use Rattle.rly_journal.proofs.tail.renew.Goals.{After-machine, In-Ok}
 use Rattle.rly_journal.proofs.tail.renew.Goals as goal
 
 -- ---- what is known on the way
 
-chosen : (g : Over) (c : After-machine g)
+chosen : (g : _) (c : After-machine g)
     → IsChosen (g.D.Disk.state c.args.disk.now).size c.args.tail.now c.args.index.now.spool.state c.choose-choice.result.target c.choose-choice.result.victim
 chosen g c =
     let by = c.choose-choice.ensures in
@@ -19,19 +14,18 @@ chosen g c =
     let free = rw (e, c.requires.ends.segment) at by.target in
     search (c.requires.shaped, c.requires.shaped.full c.requires.full, c.law_index.ensures.sound, free, rw e at by.victim, rw e at by.may, rw e at by.room)
 
-abbrev copied : (g : Over) → In-Ok g → Renewal
+abbrev copied : (g : _) → In-Ok g → Renewal
 copied g c =
-    let chose = c.choose-choice.result in
-    record { places = c.args.index.now.spool.state; target = chose.target; victim = chose.victim; copy = c.in-Ok.copy.state }
+    record { places = c.args.index.now.spool.state; target = c.choose-choice.result.target; victim = c.choose-choice.result.victim; copy = c.in-Ok.copy.state }
 
-drawn : (g : Over) (c : In-Ok g) → IsDrawn (g.D.Disk.state c.args.disk.now) c.args.tail.now (copied g c)
+drawn : (g : _) (c : In-Ok g) → IsDrawn (g.D.Disk.state c.args.disk.now) c.args.tail.now (copied g c)
 drawn g c = record {
   chosen = chosen g (goal.at.In-Ok g c).After-machine;
   copy = rw c.machine.ensures at c.in-Ok.ensures.lengths;
   bytes = λ honest. rw c.machine.ensures at (c.in-Ok.ensures.drawn honest);
 }
 
-drew : (g : Over) (c : In-Ok g) → Makes g.D.Disk.state (drawing_for c.args.tail.now (copied g c)) true c.args.disk.now c.draw.new.disk
+drew : (g : _) (c : In-Ok g) → Makes g.D.Disk.state (drawing_for c.args.tail.now (copied g c)) true c.args.disk.now c.draw.new.disk
 drew g c = rw c.machine.ensures at c.in-Ok.ensures.trace
 
 -- ---- the calls on the way
@@ -61,8 +55,7 @@ returns-in-Err-OutOfMemory g c s position calls asks sound =
 pub returns-in-Err-Device : goal.returns-in-Err-Device
 returns-in-Err-Device g c s position calls asks sound =
     let d = undrawn (g.met.D.Disk.consistent c.args.disk.now) (chosen g (goal.at.returns-in-Err-Device g c).After-machine) in
-    let made = rw (c.in-Err-Device.field-0-is, c.machine.ensures) at c.in-Err-Device.ensures.trace in
-    unread_front g.met.D.Disk.consistent sound d (asks, c.requires.full) made
+    unread_front g.met.D.Disk.consistent sound d (asks, c.requires.full) (rw (c.in-Err-Device.field-0-is, c.machine.ensures) at c.in-Err-Device.ensures.trace)
 
 -- ---- it was drawn, and no memory was left for its head, or that wasn't written
 

@@ -5,7 +5,5 @@ pub loop-segment-preserved : goal.loop-segment-preserved
 loop-segment-preserved g c = each_next g.D.Disk.state _ c.loop-segment.segment c.loop-segment.invariant (rw c.segment_place.ensures at c.in_ok-settle.ensures)
 
 pub returns-in_err-settle : goal.returns-in_err-settle
-returns-in_err-settle g c =
-    cut_short g.D.Disk.state _ c.from_residual.ensures.0
-    (each_failed g.D.Disk.state _ c.loop-segment.segment c.args.geometry.now.segments (omega (arith, c.loop-segment-test.true)) c.loop-segment.invariant
-    (rw c.segment_place.ensures at c.in_err-settle.ensures))
+returns-in_err-settle g c = cut_short _ _ c.from_residual.ensures.0 (each_failed _ _ c.loop-segment.segment c.args.geometry.now.segments
+    (omega (arith, c.loop-segment-test.true)) c.loop-segment.invariant (rw c.segment_place.ensures at c.in_err-settle.ensures))

@@ -3,8 +3,7 @@ use Rattle.rly_segment.proofs.PlacedHeads.{fault_placed, forms_of, stored_once}
 use Rattle.rly_segment.proofs.placed_heads.read_placed_head.Goals as goal
 
 pub returns-in-Err-clause-read : goal.returns-in-Err-clause-read
-returns-in-Err-clause-read g c honest =
-    fault_placed (g.D.Disk.state c.args.disk.now).seen c.args.segment c.in-Err.fault c.requires.geometry (c.in-Err.ensures.read honest)
+returns-in-Err-clause-read g c honest = fault_placed _ c.args.segment c.in-Err.fault c.requires.geometry (c.in-Err.ensures.read honest)
 
 -- a head that was read holds no other state
 pub returns-then-not-is_placed-clause-read : goal.returns-then-not-is_placed-clause-read

@@ -1,6 +1,5 @@
 use Rattle.rly_disk.proofs.Common.{arith}
-use Rattle.rly_disk.proofs.RecordLemmas.{of_record, part-within}
-use Rattle.rly_disk.proofs.Steps.{left_image}
+use Rattle.rly_disk.proofs.RecordLemmas.{left_image, of_record, part-within}
 use Rattle.rly_disk.proofs.mem.MemDisk.crash.Goals as goal
 
 pub restore-requires : goal.restore-requires

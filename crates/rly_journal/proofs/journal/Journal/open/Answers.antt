@@ -1,18 +1,15 @@
-use Rattle.std.proofs.Common.{map, ap, rules, ◌∙◌}
-use Rattle.rly_journal.proofs.Common.{broken_only, broken_settled, makes_later, opening_only, opening_settled, told_when}
+use Rattle.rly_journal.proofs.Common.{ap, broken_only, broken_settled, map, opening_only, opening_settled, rules, told_when, ◌∙◌}
 use Rattle.rly_journal.proofs.Opening.{opened_sound, opened_stands}
 use Rattle.rly_journal.proofs.journal.Journal.open.Goals as goal
 
 pub invariant_of-result : goal.invariant_of-result
 invariant_of-result g c =
-    let trace = c.in-Ok.ensures.trace in
-    let later = makes_later g.D.Disk.state trace.2 in
-    let only = opening_only g.D.Disk.state g.met.D.Disk.consistent trace.0 trace.2 in (
+    let trace = c.in-Ok.ensures.trace in let only = opening_only g.D.Disk.state g.met.D.Disk.consistent trace.0 trace.2 in (
       opened_sound (g.met.D.Disk.consistent c.begin.new.disk) c.in-Ok.ensures.shaped c.in-Ok.ensures.ends c.law_index.ensures.holds
           (ap (λ d. (g.D.Disk.state d).seen) c.of-first_disk.ensures) (ap (λ x. x.spool.state) c.of-first_index.ensures)
           (ap (map (λ e. e.0.value)) c.new.ensures)
-          (λ honest. opening_settled g.D.Disk.state g.met.D.Disk.consistent trace.0 trace.2 (later.honest.0 honest))
-          (λ honest. rw (only.crash (later.honest.0 honest)).seen (c.in-Ok.ensures.logged (later.honest.0 honest)))
+          (λ honest. opening_settled g.D.Disk.state g.met.D.Disk.consistent trace.0 trace.2 (only.later.honest.0 honest))
+          (λ honest. rw (only.crash (only.later.honest.0 honest)).seen (c.in-Ok.ensures.logged (only.later.honest.0 honest)))
           (c.seq-position.ensures ∙ ap (λ m. m.state.seq) c.machine.ensures),
       record { empty = c.in-Ok.ensures.group; none = c.in-Ok.ensures.outcomes; room = c.in-Ok.ensures.room },
     )
