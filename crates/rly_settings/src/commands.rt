@@ -22,7 +22,7 @@ that waited longer. There is no limit where it is 0 or left out.";
 
 /// The help on the options of `format`.
 const FORMATTED: &str =
-    "Prints `formatted` and the bytes that the device takes: 64, and its segments.
+    "Prints `formatted` and the size of the device in bytes: a header of 64, and its segments.
 What the file held is lost; a device that holds live datagrams is refused without `--force`.
 Values out of their limits answer `refused 21 badgeometry` before the file is touched.";
 
@@ -37,13 +37,14 @@ be one that may be written.";
 const SERVED: &str =
     "Takes datagrams from each peer of the plan, and hands them to its hops while a contact is open.
 A datagram is acknowledged once the device holds it. SIGINT or SIGTERM may end the program at any
-moment: nothing that was acknowledged is lost, and it goes on where it is started again. Where a
-write or a sync of the device fails, it answers no neighbour until it is started again.";
+moment: nothing that was acknowledged is lost, and the next start goes on from there. After a failed
+write or sync of the device it acknowledges nothing more, and ends with status 1.";
 
 /// The help on `key`.
 const KEYED: &str =
-    "Prints 64 hexadecimal digits and a line's end, of the system's randomness: the file of a key, which both
-ends of a link hold and a plan names. No one else is to read it, so make it under `umask 077`.";
+    "Prints a new key, of the system's randomness: 64 hexadecimal digits and a newline. A plan names the
+file that it is kept in, and both ends of a link hold the same key. No one else may read that file,
+so make it under `umask 077`.";
 
 /// The help on the options of `plan`.
 const PLANNED: &str =
