@@ -5,8 +5,3 @@ use std::process::Abort;
 pub(crate) fn expect<R: Abort>(rt: &R, holds: bool, what: &str) {
     assert!(rt; holds, "not so: {what}");
 }
-
-/// The same in a row of several.
-pub(crate) fn expect_row<R: Abort>(rt: &R, holds: bool, what: &str, row: u64) {
-    assert!(rt; holds, "not so in row {row}: {what}");
-}

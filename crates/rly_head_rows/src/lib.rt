@@ -6,25 +6,23 @@
 //! these are proved once. The crate has no code but tests, so no crate may call it.
 #![tactic(auto)]
 
-/// As `assert!`, by one call: the prover then sees one way on where `assert!` has two. `assert!` stands where a later call needs
-/// what was asserted, and where the text shows more of a row than a number. A number after the condition names a row.
 #[cfg(test)]
-macro_rules! expect {
-    ($rt:expr; $cond:expr $(,)?) => {
-        crate::expect::expect(&$rt, $cond, stringify!($cond))
-    };
-    ($rt:expr; $cond:expr, $row:expr $(,)?) => {
-        crate::expect::expect_row(&$rt, $cond, stringify!($cond), $row)
-    };
-}
-
+mod bodies;
+#[cfg(test)]
+mod calls;
+#[cfg(test)]
+mod cycles;
+#[cfg(test)]
+mod devices;
 #[cfg(test)]
 mod expect;
 #[cfg(test)]
+mod headers;
+#[cfg(test)]
 mod heads;
 #[cfg(test)]
-mod opening;
-#[cfg(test)]
 mod placed;
+#[cfg(test)]
+mod places;
 #[cfg(test)]
 mod room;

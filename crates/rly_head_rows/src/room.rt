@@ -1,222 +1,147 @@
 //! The room that a segment wants.
+use crate::bodies::WIDE_PARAMS;
+use crate::devices::{LONG, SMALL, SMALL_PARAMS};
+use crate::expect::expect;
 use rly_core::{Geometry, Params};
 use rly_reclaim::{fits, free_segment, group_room, is_due, least_length, victim};
 use rly_segment::segment_end;
 use std::process::Abort;
 
-/// One hop, one peer, 16 items and 4,096 bytes on two segments.
-const SMALL: Geometry = Geometry {
-    params: Params {
-        hops: 1,
-        peers: 1,
-        window: 8,
-        items: 16,
-        bytes: 4_096,
-        maxpacket: 1_500,
-        target: 5_000,
-        interval: 100_000,
-        payload: 1_200,
-    },
-    segments: 2,
-    length: 82_908,
-};
-
-/// Segments of the least length fit, and a byte less doesn't.
-fn expect_fitting(rt: &impl Abort) {
-    expect!(rt; fits(&SMALL));
-    expect!(rt; !fits(&Geometry {
-            length: 82_907,
-            ..SMALL
-        }));
-}
-
-#[test]
-fn the_least_length_fits_and_one_less_does_not(rt: HostRuntime) {
-    expect_fitting(&rt);
-}
-
-#[test]
-fn four_segments_of_the_default_parameters(rt: HostRuntime) {
-    let geometry = Geometry {
-        params: Params::DEFAULT,
-        segments: 4,
-        length: 0,
-    };
-    expect!(rt; least_length(&geometry) == 455_790);
-}
-
-/// One hop, one peer, a window of 64, 64 items and 76,800 bytes, on three segments of the least length.
-const THREE: Geometry = Geometry {
-    params: Params {
-        hops: 1,
-        peers: 1,
-        window: 64,
-        items: 64,
-        bytes: 76_800,
-        ..Params::DEFAULT
-    },
-    segments: 3,
-    length: 118_508,
-};
-
-/// The least length of three segments, and that a byte less doesn't fit.
-fn expect_three(rt: &impl Abort) {
-    expect!(rt; least_length(&THREE) == 118_508);
-    expect!(rt; fits(&THREE));
-    expect!(rt; !fits(&Geometry {
-            length: 118_507,
-            ..THREE
-        }));
-}
-
-#[test]
-fn the_least_length_of_three_segments(rt: HostRuntime) {
-    expect_three(&rt);
-}
-
-/// The least length of two segments, and of 256.
-fn expect_others(rt: &impl Abort) {
-    expect!(rt; least_length(&Geometry {
-            segments: 2,
-            ..THREE
-        }) == 156_908);
-    expect!(rt; least_length(&Geometry {
-            segments: 256,
-            ..THREE
-        }) == 80_409);
-}
-
-#[test]
-fn the_same_on_two_segments_and_on_256(rt: HostRuntime) {
-    expect_others(&rt);
-}
-
-#[test]
-fn three_segments_of_the_least_length_take_355588_bytes(rt: HostRuntime) {
-    expect!(rt; segment_end(&THREE, 2) == 355_588);
-}
-
-/// The largest group has 64 Takes of the longest payload: `64 * (23 + payload) + 8` bytes with its gate and one gate more.
-fn expect_rooms(rt: &impl Abort) {
-    expect!(rt; group_room(1) == 1_544);
-    expect!(rt; group_room(1_200) == 78_280);
-    expect!(rt; group_room(1_201) == 78_344);
-    expect!(rt; group_room(8_192) == 525_768);
-}
-
-#[test]
-fn the_room_of_a_group_goes_by_the_longest_payload(rt: HostRuntime) {
-    expect_rooms(&rt);
-}
-
-/// The first spool for payloads of at most so many bytes: its least length, and whether segments of a length fit.
-fn least_and_fits(rt: &impl Abort, payload: u64, length: u64) -> (u64, bool) {
-    let geometry = Geometry {
-        params: Params {
-            payload,
-            ..SMALL.params
+/// How many segments a spool has, the least length of them, and the end of the last. The least length has the room of a group in it,
+/// which goes by the longest payload.
+const LEASTS: [(Params, u64, u64, u64); 10] = [
+    (SMALL_PARAMS, 2, 82_908, 165_880),
+    (
+        Params {
+            payload: 1,
+            ..SMALL_PARAMS
         },
-        segments: 2,
-        length,
+        2,
+        6_172,
+        12_408,
+    ),
+    (
+        Params {
+            payload: 1_201,
+            ..SMALL_PARAMS
+        },
+        2,
+        82_972,
+        166_008,
+    ),
+    (
+        Params {
+            payload: 8_192,
+            ..SMALL_PARAMS
+        },
+        2,
+        530_396,
+        1_060_856,
+    ),
+    (
+        Params {
+            bytes: 8_192,
+            payload: 8_192,
+            ..SMALL_PARAMS
+        },
+        2,
+        534_492,
+        1_069_048,
+    ),
+    (WIDE_PARAMS, 2, 156_908, 313_880),
+    (WIDE_PARAMS, 3, 118_508, 355_588),
+    (WIDE_PARAMS, 256, 80_409, 20_584_768),
+    (Params::DEFAULT, 4, 455_790, 1_823_224),
+    (
+        Params {
+            payload: 8_192,
+            ..Params::DEFAULT
+        },
+        4,
+        903_278,
+        3_613_176,
+    ),
+];
+
+/// Segments of the least length fit, those that are a byte shorter don't, and the last one ends there.
+fn expect_least<R: Abort>(rt: &R, (params, segments, least, end): (Params, u64, u64, u64)) {
+    assert!(rt; params.check().is_ok() && 2 <= segments && segments <= 256);
+    assert!(rt; 1 <= least && least <= 1_000_000);
+    let geometry = Geometry {
+        params,
+        segments,
+        length: least,
     };
-    assert!(rt; geometry.params.check().is_ok());
-    (least_length(&geometry), fits(&geometry))
+    let short = Geometry {
+        length: least - 1,
+        ..geometry
+    };
+    let fitting = (fits(&geometry), fits(&short));
+    let found = (
+        least_length(&geometry),
+        segment_end(&geometry, segments - 1),
+    );
+    assert!(rt;
+        (fitting, found) == ((true, false), (least, end)),
+        "{segments} of {least}"
+    );
 }
 
-/// So long segments fit, and those that are a byte shorter don't.
-fn expect_least(rt: &impl Abort, payload: u64, least: u64) {
-    expect!(rt; least_and_fits(rt, payload, least) == (least, true), payload);
-    let short = least.saturating_sub(1);
-    expect!(rt; least_and_fits(rt, payload, short) == (least, false), payload);
-}
-
-/// The least length has the room of a group in it, beside 4,628 bytes here.
-fn expect_leasts(rt: &impl Abort) {
-    for (payload, least) in [
-        (1, 6_172u64),
-        (1_200, 82_908),
-        (1_201, 82_972),
-        (8_192, 530_396),
-    ] {
-        expect_least(rt, payload, least);
+fn expect_leasts<R: Abort>(rt: &R, rows: &[(Params, u64, u64, u64)]) {
+    for row in rows {
+        expect_least(rt, *row);
     }
 }
 
 #[test]
-fn the_least_length_goes_by_the_longest_payload(rt: HostRuntime) {
-    expect_leasts(&rt);
+fn the_least_length_of_segments(rt: HostRuntime) {
+    expect_leasts(&rt, &LEASTS);
 }
 
-/// One hop, one peer, 16 items and 8,192 bytes on two segments, and payloads of at most 8,192 bytes.
-const LONG: Geometry = Geometry {
-    params: Params {
-        hops: 1,
-        peers: 1,
-        window: 8,
-        items: 16,
-        bytes: 8_192,
-        payload: 8_192,
-        ..Params::DEFAULT
-    },
-    segments: 2,
-    length: 534_492,
-};
-
-/// The least lengths for payloads of 8,192 bytes.
-fn expect_long(rt: &impl Abort) {
-    expect!(rt; least_length(&LONG) == 534_492);
-    expect!(rt; segment_end(&LONG, 1) == 1_069_048);
-    let default = Geometry {
-        params: Params {
-            payload: 8_192,
-            ..Params::DEFAULT
-        },
-        segments: 4,
-        length: 0,
-    };
-    expect!(rt; least_length(&default) == 903_278);
-}
-
+/// The largest group has 64 Takes of the longest payload: `64 * (23 + payload) + 8` bytes with its gate and one gate more.
 #[test]
-fn the_least_length_for_payloads_of_8192_bytes(rt: HostRuntime) {
-    expect_long(&rt);
+fn the_room_of_a_group_goes_by_the_longest_payload(rt: HostRuntime) {
+    let rooms = [
+        group_room(1),
+        group_room(1_200),
+        group_room(1_201),
+        group_room(8_192),
+    ];
+    expect(&rt, rooms == [1_544, 78_280, 78_344, 525_768], "rooms");
 }
 
 /// 82,908 less 78,280 bytes, and 534,492 less 525,768.
-fn expect_due(rt: &impl Abort) {
-    expect!(rt; !is_due(&SMALL, 4_628));
-    expect!(rt; is_due(&SMALL, 4_629));
-    expect!(rt; !is_due(&LONG, 8_724));
-    expect!(rt; is_due(&LONG, 8_725));
-}
-
 #[test]
 fn a_segment_is_due_where_the_largest_group_has_no_room(rt: HostRuntime) {
-    expect_due(&rt);
+    let small = [is_due(&SMALL, 4_628), is_due(&SMALL, 4_629)];
+    let long = [is_due(&LONG, 8_724), is_due(&LONG, 8_725)];
+    expect(&rt, (small, long) == ([false, true], [false, true]), "due");
 }
 
-/// Live bytes by segment, the current one, and the free one.
-fn expect_free(rt: &impl Abort) {
-    expect!(rt; free_segment(&[7, 0, 3, 0], 0) == Some(1));
-    expect!(rt; free_segment(&[7, 0, 3, 0], 1) == Some(3));
-    expect!(rt; free_segment(&[0, 0], 0) == Some(1));
-    expect!(rt; free_segment(&[7, 0, 3], 1) == None);
-}
-
+/// Live bytes by segment, and the current one.
 #[test]
 fn the_first_empty_segment_is_free_but_for_the_current_one(rt: HostRuntime) {
-    expect_free(&rt);
+    let free = [
+        free_segment(&[7, 0, 3, 0], 0),
+        free_segment(&[7, 0, 3, 0], 1),
+        free_segment(&[0, 0], 0),
+        free_segment(&[7, 0, 3], 1),
+    ];
+    expect(
+        &rt,
+        free == [Some(1), Some(3), Some(1), None],
+        "the free one",
+    );
 }
 
-/// Live bytes by segment, the free one, and the victim.
-fn expect_victims(rt: &impl Abort) {
-    expect!(rt; victim(&[7, 0, 3, 3], 1) == 2);
-    expect!(rt; victim(&[0, 5, 0], 0) == 2);
-    expect!(rt; victim(&[9, 0], 1) == 0);
-    expect!(rt; victim(&[0, 9], 0) == 1);
-}
-
+/// Live bytes by segment, and the free one.
 #[test]
 fn the_victim_has_the_fewest_live_bytes(rt: HostRuntime) {
-    expect_victims(&rt);
+    let victims = [
+        victim(&[7, 0, 3, 3], 1),
+        victim(&[0, 5, 0], 0),
+        victim(&[9, 0], 1),
+        victim(&[0, 9], 0),
+    ];
+    expect(&rt, victims == [2, 2, 0, 1], "the victim");
 }

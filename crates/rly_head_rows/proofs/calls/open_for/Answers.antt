@@ -1,7 +1,7 @@
 use Rattle.std.proofs.Common.{rules}
 use Rattle.rly_checkpoint.specs.declared.head_form.HeadForm.TheVariants.{Second}
 use Rattle.rly_segment.proofs.PlacedHeads.{forms_of}
-use Rattle.rly_head_rows.proofs.placed.open.Goals as goal
+use Rattle.rly_head_rows.proofs.calls.open_for.Goals as goal
 
 pub open_segment-requires-clause-fits : goal.open_segment-requires-clause-fits
 open_segment-requires-clause-fits g c =
