@@ -53,6 +53,13 @@ LONGEST = f"""
 """
 
 
+# Each number of the largest spool.
+LARGEST = [
+    "--hops=64", "--peers=64", "--window=64", "--items=16384", "--bytes=16777216", "--maxpacket=65535", "--target=3600000000",
+    "--interval=3600000000", "--payload=8192",
+]
+
+
 class Sim(Rows):
     """What a spool in memory answers."""
 
@@ -237,6 +244,21 @@ class Spools(Sim):
             take 65 1 1 0 41  -> refused 1 nopeer
             window 65         -> refused 2 nohop
         """, "--hops=64", "--peers=64")
+
+    def test_the_largest_spool(self):
+        """A queue holds 16,384 datagrams, the first of which has the longest payload, and a window holds 64."""
+        longest, short = "07" * 8_192, "07" * 24
+        taken = "".join(f"take 64 {number} 64 {number} {short} -> taken 64 {number}\n" for number in range(2, 16_385))
+        picked = "".join(f"pick 64 16384 -> picked 64 {number} {number}\n" for number in range(1, 65))
+        self.answers(f"""
+            take 64 1 64 1 {longest} -> taken 64 1
+            {taken}
+            take 64 16385 64 16385 - -> refused 6 full
+            {picked}
+            pick 64 16384            -> refused 7 windowfull
+            fetch 64 1               -> bytes 64 1 {longest}
+            fetch 64 64              -> bytes 64 64 {short}
+        """, *LARGEST)
 
 
 class Limits(Sim):

@@ -1,17 +1,15 @@
 //! Commands, and the plain machine's replies to them.
 use rly_core::{HopId, Params, PeerId, Refusal};
 use rly_machine::{Command, Machine, Payload, Reply};
-use std::alloc::{AllocError, Global};
+use std::alloc::Global;
 use std::process::Abort;
 
-/// A command of peer 1 at hop 1, without a limit.
+/// A command at a hop, of the peer with its number, without a limit.
 #[derive(Clone, Copy)]
 pub(crate) enum Act<'a> {
-    Take {
-        number: u64,
-        stamp: u64,
-        bytes: &'a [u8],
-    },
+    /// Its number, its stamp and its payload.
+    Take(u64, u64, &'a [u8]),
+    /// The moment.
     Pick(u64),
 }
 
@@ -31,22 +29,21 @@ pub(crate) fn new_machine<R: Abort>(rt: &R, alloc: Global, params: Params) -> Ma
     Machine::new(alloc, params).expect(rt, "memory")
 }
 
-/// The command of an act.
-fn command_of<R: Abort>(rt: &R, alloc: Global, act: Act<'_>) -> Command<Payload> {
+/// The command of an act at a hop.
+fn command_of<R: Abort>(rt: &R, alloc: Global, hop: u16, act: Act<'_>) -> Command<Payload> {
     match act {
-        Act::Take {
+        Act::Take(number, stamp, bytes) => Command::Take {
+            peer: PeerId(hop),
             number,
-            stamp,
-            bytes,
-        } => Command::Take {
-            peer: PeerId(1),
-            number,
-            hop: HopId(1),
+            hop: HopId(hop),
             stamp,
             limit: 0,
             payload: Payload::copy_of(alloc, bytes).expect(rt, "memory"),
         },
-        Act::Pick(now) => Command::Pick { hop: HopId(1), now },
+        Act::Pick(now) => Command::Pick {
+            hop: HopId(hop),
+            now,
+        },
     }
 }
 
@@ -64,23 +61,15 @@ fn told_by(reply: &Reply) -> Told {
     }
 }
 
-/// What a spool says to a command.
+/// What a spool says to an act at a hop.
 pub(crate) fn tell<R: Abort>(
     rt: &R,
     alloc: Global,
     machine: &mut Machine<Payload>,
+    hop: u16,
     act: Act<'_>,
 ) -> Told {
-    let command = command_of(rt, alloc, act);
-    told_by(&run(alloc, machine, command).expect(rt, "memory"))
-}
-
-/// Applies a command.
-pub(crate) fn run(
-    alloc: Global,
-    machine: &mut Machine<Payload>,
-    command: Command<Payload>,
-) -> Result<Reply, AllocError> {
-    let room = machine.reserve_for(alloc, &command)?;
-    Ok(machine.apply(command, room))
+    let command = command_of(rt, alloc, hop, act);
+    let room = machine.reserve_for(alloc, &command).expect(rt, "memory");
+    told_by(&machine.apply(command, room))
 }

@@ -1,7 +1,9 @@
 //! Steps of CoDel's control law.
 use rly_law::{Control, LONGEST_INTERVAL, Plain, StepTable, step};
+use std::process::Abort;
 
-/// An interval, a count, and the greatest d with d * d * count <= interval * interval, computed apart from this code.
+/// An interval, a count, and the greatest d with d * d * count <= interval * interval, computed apart from this code. The last step that
+/// a table has, and the first one after it, are among them.
 const STEPS: [(u64, u64, u64); 12] = [
     (100_000, 1, 100_000),
     (100_000, 2, 70_710),
@@ -17,25 +19,22 @@ const STEPS: [(u64, u64, u64); 12] = [
     (LONGEST_INTERVAL, u64::MAX, 0),
 ];
 
+/// The step after so many drops: by itself, by a table, and by a `Control` without one.
+fn steps<R: Abort>(rt: &R, interval: u64, count: u64) -> [u64; 3] {
+    assert!(rt; count > 0 && interval <= LONGEST_INTERVAL);
+    let by_table = StepTable::new(interval).step(count);
+    [
+        step(interval, count),
+        by_table,
+        Plain::new(interval).step(count),
+    ]
+}
+
 #[test]
 fn steps_of_intervals(rt: HostRuntime) {
     for (interval, count, want) in &STEPS {
-        assert!(rt; *count > 0 && *interval <= LONGEST_INTERVAL);
-        assert!(rt; step(*interval, *count) == *want, "{interval} at {count}");
-    }
-}
-
-/// The last step that a table has, and the first one after it, are among them.
-#[test]
-fn steps_by_a_table(rt: HostRuntime) {
-    for (interval, count, want) in &STEPS {
-        assert!(rt; *count > 0 && *interval <= LONGEST_INTERVAL);
         assert!(rt;
-            StepTable::new(*interval).step(*count) == *want,
-            "{interval} at {count}"
-        );
-        assert!(rt;
-            Plain::new(*interval).step(*count) == *want,
+            steps(&rt, *interval, *count) == [*want; 3],
             "{interval} at {count}"
         );
     }

@@ -1,4 +1,5 @@
 //! Worked rows of CoDel's dequeue.
+use crate::expect::expect;
 use rly_codel::{CodelState, Lane, Verdict, dequeue, dequeue_with};
 use rly_core::Params;
 use rly_law::StepTable;
@@ -28,148 +29,8 @@ impl Lane for EqualItems {
     }
 }
 
-/// One dequeue from `count` such items, by a table of steps too.
-fn dequeue_from(
-    rt: &impl Abort,
-    state: &mut CodelState,
-    count: u16,
-    now: u64,
-    params: &Params,
-) -> Verdict {
-    assert!(rt; params.check().is_ok());
-    assert!(rt; now < 1 << 52);
-    assert!(rt; state.first_above_time < 1 << 53);
-    assert!(rt; state.drop_next < 1 << 53);
-    assert!(rt; state.lastcount <= state.count);
-    assert!(rt; state.count < 1 << 62);
-    let mut by_table = *state;
-    let steps = StepTable::new(params.interval);
-    let same = dequeue_with(&mut by_table, &EqualItems { count }, now, params, &steps);
-    let verdict = dequeue(state, &EqualItems { count }, now, params);
-    expect!(rt; by_table == *state && same == verdict);
-    verdict
-}
-
-/// One dequeue, with what it answers and the state that it leaves, where these are compared.
-struct Row {
-    count: u16,
-    now: u64,
-    answer: Option<Verdict>,
-    left: Option<CodelState>,
-}
-
-/// Makes a dequeue, and compares.
-fn expect_row(rt: &impl Abort, state: &mut CodelState, params: &Params, row: &Row) {
-    let verdict = dequeue_from(rt, state, row.count, row.now, params);
-    if let Some(answer) = row.answer {
-        assert!(rt; verdict == answer, "at {}", row.now);
-    }
-    if let Some(left) = row.left {
-        assert!(rt; *state == left, "at {}", row.now);
-    }
-}
-
-/// Makes the dequeues of a table one after the other, and answers the state that the last one leaves.
-fn expect_rows(rt: &impl Abort, before: CodelState, params: &Params, rows: &[Row]) -> CodelState {
-    let mut state = before;
-    for row in rows {
-        expect_row(rt, &mut state, params, row);
-    }
-    state
-}
-
-/// A datagram is delivered after none that is dropped.
-const NO_DROP: Option<Verdict> = Some(Verdict {
-    dropped: 0,
-    delivered: true,
-});
-
-/// After one.
-const ONE_DROP: Option<Verdict> = Some(Verdict {
-    dropped: 1,
-    delivered: true,
-});
-
-/// After four.
-const FOUR_DROPS: Option<Verdict> = Some(Verdict {
-    dropped: 4,
-    delivered: true,
-});
-
-/// The second dequeue is exactly at `first_above_time`. The second drop takes the front's last item, so it ends the phase and
-/// sets no new time.
-const SIX_ITEMS: [Row; 3] = [
-    Row {
-        count: 6,
-        now: 10_000,
-        answer: NO_DROP,
-        left: Some(CodelState {
-            first_above_time: 110_000,
-            ..CodelState::NEW
-        }),
-    },
-    Row {
-        count: 5,
-        now: 110_000,
-        answer: ONE_DROP,
-        left: Some(CodelState {
-            first_above_time: 110_000,
-            drop_next: 210_000,
-            count: 1,
-            lastcount: 1,
-            dropping: true,
-        }),
-    },
-    Row {
-        count: 3,
-        now: 210_000,
-        answer: ONE_DROP,
-        left: Some(CodelState {
-            first_above_time: 0,
-            drop_next: 210_000,
-            count: 2,
-            lastcount: 1,
-            dropping: false,
-        }),
-    },
-];
-
-#[test]
-fn six_items_at_three_moments(rt: HostRuntime) {
-    let _ = expect_rows(&rt, CodelState::default(), &Params::default(), &SIX_ITEMS);
-}
-
-const AT_ONCE: [Row; 3] = [
-    Row {
-        count: 10,
-        now: 10_000,
-        answer: None,
-        left: None,
-    },
-    Row {
-        count: 9,
-        now: 110_000,
-        answer: None,
-        left: None,
-    },
-    Row {
-        count: 7,
-        now: 400_000,
-        answer: FOUR_DROPS,
-        left: Some(CodelState {
-            first_above_time: 110_000,
-            drop_next: 433_166,
-            count: 5,
-            lastcount: 1,
-            dropping: true,
-        }),
-    },
-];
-
-#[test]
-fn four_drops_are_due_at_once(rt: HostRuntime) {
-    let _ = expect_rows(&rt, CodelState::default(), &Params::default(), &AT_ONCE);
-}
+/// `first_above_time`, `drop_next`, `count` and `lastcount` of a state, and whether it drops.
+type State = ([u64; 4], bool);
 
 /// A state after a phase of five drops.
 const BEHIND_FIVE: CodelState = CodelState {
@@ -180,73 +41,141 @@ const BEHIND_FIVE: CodelState = CodelState {
     dropping: false,
 };
 
-/// Exactly 16 intervals after `drop_next` the last phase no longer counts.
-const SOON_AND_LATE: [Row; 2] = [
-    Row {
-        count: 3,
-        now: 1_500_000,
-        answer: ONE_DROP,
-        left: Some(CodelState {
-            first_above_time: 0,
-            drop_next: 1_550_000,
-            count: 4,
-            lastcount: 4,
-            dropping: true,
-        }),
-    },
-    Row {
-        count: 3,
-        now: 2_600_000,
-        answer: ONE_DROP,
-        left: Some(CodelState {
-            first_above_time: 0,
-            drop_next: 2_700_000,
-            count: 1,
-            lastcount: 1,
-            dropping: true,
-        }),
-    },
-];
-
-#[test]
-fn a_phase_begins_with_the_count_of_a_recent_one(rt: HostRuntime) {
-    for row in &SOON_AND_LATE {
-        let mut state = BEHIND_FIVE;
-        expect_row(&rt, &mut state, &Params::default(), row);
-    }
+/// Dequeues from a lane of so many items at these moments, one after the other, and how many the last one drops, whether it delivers, and the
+/// state that it leaves.
+struct Row {
+    shows: &'static str,
+    before: CodelState,
+    maxpacket: u64,
+    counts: &'static [u16],
+    moments: &'static [u64],
+    verdict: (usize, bool),
+    left: State,
 }
 
-const EMPTIED: [Row; 3] = [
+const ROWS: [Row; 8] = [
     Row {
-        count: 3,
-        now: 10_000,
-        answer: None,
-        left: None,
+        shows: "the first of three dequeues of six items",
+        before: CodelState::NEW,
+        maxpacket: 1_500,
+        counts: &[6],
+        moments: &[10_000],
+        verdict: (0, true),
+        left: ([110_000, 0, 0, 0], false),
     },
     Row {
-        count: 2,
-        now: 110_000,
-        answer: ONE_DROP,
-        left: None,
+        shows: "the second, exactly at first_above_time",
+        before: CodelState::NEW,
+        maxpacket: 1_500,
+        counts: &[6, 5],
+        moments: &[10_000, 110_000],
+        verdict: (1, true),
+        left: ([110_000, 210_000, 1, 1], true),
     },
     Row {
-        count: 0,
-        now: 120_000,
-        answer: Some(Verdict {
-            dropped: 0,
-            delivered: false,
-        }),
-        left: None,
+        shows: "the third: its drop takes the front's last item, so it ends the phase and sets no new time",
+        before: CodelState::NEW,
+        maxpacket: 1_500,
+        counts: &[6, 5, 3],
+        moments: &[10_000, 110_000, 210_000],
+        verdict: (1, true),
+        left: ([0, 210_000, 2, 1], false),
+    },
+    Row {
+        shows: "four drops are due at once",
+        before: CodelState::NEW,
+        maxpacket: 1_500,
+        counts: &[10, 9, 7],
+        moments: &[10_000, 110_000, 400_000],
+        verdict: (4, true),
+        left: ([110_000, 433_166, 5, 1], true),
+    },
+    Row {
+        shows: "a phase begins with the count of a recent one",
+        before: BEHIND_FIVE,
+        maxpacket: 1_500,
+        counts: &[3],
+        moments: &[1_500_000],
+        verdict: (1, true),
+        left: ([0, 1_550_000, 4, 4], true),
+    },
+    Row {
+        shows: "exactly 16 intervals after drop_next the last phase no longer counts",
+        before: BEHIND_FIVE,
+        maxpacket: 1_500,
+        counts: &[3],
+        moments: &[2_600_000],
+        verdict: (1, true),
+        left: ([0, 2_700_000, 1, 1], true),
+    },
+    Row {
+        shows: "a phase begins before the last item",
+        before: CodelState::NEW,
+        maxpacket: 500,
+        counts: &[3, 2],
+        moments: &[10_000, 110_000],
+        verdict: (1, true),
+        left: ([0, 210_000, 1, 1], true),
+    },
+    Row {
+        shows: "an empty lane ends it",
+        before: CodelState::NEW,
+        maxpacket: 500,
+        counts: &[3, 2, 0],
+        moments: &[10_000, 110_000, 120_000],
+        verdict: (0, false),
+        left: ([0, 210_000, 1, 1], false),
     },
 ];
 
-#[test]
-fn an_empty_lane_ends_a_phase(rt: HostRuntime) {
+fn rows() -> &'static [Row] {
+    &ROWS
+}
+
+/// One dequeue from `count` items, which is the same by a table of steps.
+fn dequeue_from<R: Abort>(
+    rt: &R,
+    state: &mut CodelState,
+    params: &Params,
+    (count, now): (u16, u64),
+) -> Verdict {
+    assert!(rt; params.check().is_ok() && now < 1 << 52 && state.first_above_time < 1 << 53);
+    assert!(rt;
+        state.drop_next < 1 << 53 && state.lastcount <= state.count && state.count < 1 << 62
+    );
+    let (mut by_table, items) = (*state, EqualItems { count });
+    let steps = StepTable::new(params.interval);
+    let same = dequeue_with(&mut by_table, &items, now, params, &steps);
+    let verdict = dequeue(state, &items, now, params);
+    expect(rt, by_table == *state && same == verdict, "by a table");
+    verdict
+}
+
+/// Makes the dequeues of a row.
+fn expect_row<R: Abort>(rt: &R, row: &Row) {
     let params = Params {
-        maxpacket: 500,
-        ..Params::default()
+        maxpacket: row.maxpacket,
+        ..Params::DEFAULT
     };
-    let state = expect_rows(&rt, CodelState::default(), &params, &EMPTIED);
-    assert!(rt; state.first_above_time == 0);
-    assert!(rt; state.dropping == false);
+    let mut state = row.before;
+    let mut verdict = (0, false);
+    for (count, now) in row.counts.iter().zip(row.moments) {
+        let Verdict { dropped, delivered } = dequeue_from(rt, &mut state, &params, (*count, *now));
+        verdict = (dropped, delivered);
+    }
+    let numbers = [
+        state.first_above_time,
+        state.drop_next,
+        state.count,
+        state.lastcount,
+    ];
+    let is_left = (numbers, state.dropping) == row.left;
+    expect(rt, verdict == row.verdict && is_left, row.shows);
+}
+
+#[test]
+fn worked_dequeues(rt: HostRuntime) {
+    for row in rows() {
+        expect_row(&rt, row);
+    }
 }

@@ -8,15 +8,8 @@
 //! it.
 #![tactic(auto)]
 
-/// As `assert!`, by one call: the prover then sees one way on where `assert!` has two. `assert!` stands where a later call needs
-/// what was asserted, and where the text names a row.
 #[cfg(test)]
-macro_rules! expect {
-    ($rt:expr; $cond:expr $(,)?) => {
-        crate::expect::expect(&$rt, $cond, stringify!($cond))
-    };
-}
-
+mod bytes;
 #[cfg(test)]
 mod checkpoints;
 #[cfg(test)]

@@ -1,76 +1,18 @@
-//! The plain machine: a datagram in flight, and spools that are restored.
+//! The plain machine: what it tells, and the checkpoint that it has then. Spools are new, read or restored.
 ghost use Rattle.std.specs.Prelude.{◌≡◌, ◌⊎◌, [], ◌∷◌, Some, length};
 ghost use Rattle.rly_machine.specs.Relocate.{carried_at};
 ghost use Rattle.rly_machine.specs.State.{hop_at, live_line};
 
+use crate::bytes::{Changes, changed};
+use crate::checkpoints::{SEVERAL, TAKEN, written};
 use crate::commands::{Act, Told, new_machine, tell};
-use rly_core::{HopId, Params, PeerId, Refusal};
+use crate::expect::expect;
+use rly_checkpoint::{HeadForm, read_checkpoint};
+use rly_core::{HopId, Params, Refusal};
 use rly_machine::{CodelState, Hop, Item, Machine, Payload, Queue};
 use std::alloc::Global;
 use std::collections::VecDeque;
 use std::process::Abort;
-
-/// Whether an item is in flight under a number, with this id, stamp and bytes.
-fn is_in_flight(
-    machine: &Machine<Payload>,
-    number: u64,
-    (id, stamp, bytes): (u64, u64, &[u8]),
-) -> bool {
-    match machine.item(HopId(1), number) {
-        Ok(item) => (item.id, item.stamp) == (id, stamp) && item.payload.as_slice() == bytes,
-        Err(_refusal) => false,
-    }
-}
-
-/// Asks a spool for each of these, and compares what it tells.
-fn expect_told<R: Abort>(
-    rt: &R,
-    alloc: Global,
-    machine: &mut Machine<Payload>,
-    rows: &[(Act<'static>, Told)],
-) {
-    for (act, told) in rows {
-        expect!(rt; tell(rt, alloc, machine, *act) == *told);
-    }
-}
-
-/// A datagram is taken and picked.
-const FLOWN: [(Act<'static>, Told); 2] = [
-    (
-        Act::Take {
-            number: 1,
-            stamp: 900,
-            bytes: b"A",
-        },
-        Told::Taken(1),
-    ),
-    (Act::Pick(50), Told::Picked { number: 1, id: 1 }),
-];
-
-/// Makes a spool take and pick it, and looks at it in flight.
-fn expect_flight<R: Abort>(rt: &R, alloc: Global, machine: &mut Machine<Payload>) {
-    expect_told(rt, alloc, machine, &FLOWN);
-    expect!(rt; is_in_flight(machine, 1, (1, 900, b"A")));
-}
-
-/// No reply tells the stamp of what is in flight.
-#[test]
-fn a_stamp_is_kept_in_flight(rt: HostRuntime) {
-    let mut machine = new_machine(&rt, rt.alloc(), Params::DEFAULT);
-    expect_flight(&rt, rt.alloc(), &mut machine);
-}
-
-/// Makes a payload of bytes, and asks for them again.
-fn expect_given_back<R: Abort>(rt: &R, alloc: Global) {
-    let payload = Payload::new(b"abc".to_vec(alloc).expect(rt, "memory"));
-    expect!(rt; payload.as_slice() == b"abc".as_slice());
-    expect!(rt; payload.into_bytes().as_slice() == b"abc".as_slice());
-}
-
-#[test]
-fn a_payload_gives_its_bytes_back(rt: HostRuntime) {
-    expect_given_back(&rt, rt.alloc());
-}
 
 /// A spool of one hop and one peer, for five bytes.
 const SMALL: Params = Params {
@@ -79,6 +21,146 @@ const SMALL: Params = Params {
     bytes: 5,
     ..Params::DEFAULT
 };
+
+/// No reply tells the stamp of what is in flight.
+const FLOWN: [u8; 102] = [
+    // two commands were accepted, and the last number of peer 1 is 1
+    0, 0, 0, 0, 0, 0, 0, 2, 0, 0, 0, 0, 0, 0, 0, 1,
+    // the hop's last moment
+    0, 0, 0, 0, 0, 0x03, 0x84,
+    // CoDel's state
+    0, 0, 0, 0, 0, 0, 0, 0, 0, 0, 0, 0, 0, 0, 0, 0, 0, 0, 0, 0, 0, 0, 0, 0, 0, 0, 0,
+    // one datagram was taken, and none was dropped, was released or expired
+    0, 0, 0, 0, 0, 1, 0, 0, 0, 0, 0, 0, 0, 0, 0, 0, 0, 0, 0, 0, 0, 0, 0, 0,
+    // one is in flight, and none waits
+    0, 1, 0, 0, 0, 0,
+    // its id, stamp, limit, length and form, and its payload
+    0, 0, 0, 0, 0, 1, 0, 0, 0, 0, 0, 0x03, 0x84, 0, 0, 0, 0, 0, 0, 1, 0, 0x41,
+];
+
+/// The largest datagram that fits waits.
+const BEGUN: [u8; 106] = [
+    // one command was accepted, and the last number of peer 1 is 1
+    0, 0, 0, 0, 0, 0, 0, 1, 0, 0, 0, 0, 0, 0, 0, 1,
+    // the hop's last moment
+    0, 0, 0, 0, 0, 0x03, 0x84,
+    // CoDel's state
+    0, 0, 0, 0, 0, 0, 0, 0, 0, 0, 0, 0, 0, 0, 0, 0, 0, 0, 0, 0, 0, 0, 0, 0, 0, 0, 0,
+    // one datagram was taken, and none was dropped, was released or expired
+    0, 0, 0, 0, 0, 1, 0, 0, 0, 0, 0, 0, 0, 0, 0, 0, 0, 0, 0, 0, 0, 0, 0, 0,
+    // none is in flight, and one waits
+    0, 0, 0, 0, 0, 1,
+    // its id, stamp, limit, length and form, and its payload
+    0, 0, 0, 0, 0, 1, 0, 0, 0, 0, 0, 0x03, 0x84, 0, 0, 0, 0, 0, 0, 5, 0, 0x41, 0x42, 0x43, 0x44,
+    0x45,
+];
+
+/// Acts, and what a spool tells to each.
+type Acts = &'static [(Act<'static>, Told)];
+
+/// The checkpoint that a spool is read of, or nothing for a new one; what it is told; and the checkpoint that it has then.
+type Script = (&'static [u8], Acts, &'static [u8]);
+
+const SCRIPTS: [Script; 5] = [
+    (&[], &[], &[0; 80]),
+    (&[], &[(Act::Take(1, 0, b"A"), Told::Taken(1))], &TAKEN),
+    (
+        &[],
+        &[
+            (Act::Take(1, 0, b"A"), Told::Taken(1)),
+            (Act::Take(2, 0, b""), Told::Taken(2)),
+            (Act::Take(3, 0, b"BC"), Told::Taken(3)),
+            (Act::Pick(0), Told::Picked { number: 1, id: 1 }),
+        ],
+        &SEVERAL,
+    ),
+    (
+        &[],
+        &[
+            (Act::Take(1, 900, b"A"), Told::Taken(1)),
+            (Act::Pick(50), Told::Picked { number: 1, id: 1 }),
+        ],
+        &FLOWN,
+    ),
+    (
+        &[0; 80],
+        &[(Act::Take(1, 900, b"ABCDE"), Told::Taken(1))],
+        &BEGUN,
+    ),
+];
+
+/// Makes the acts of a script, and compares what a spool tells and the checkpoint that it has then.
+fn expect_acts<R: Abort>(
+    rt: &R,
+    alloc: Global,
+    machine: &mut Machine<Payload>,
+    acts: Acts,
+    want: &[u8],
+) {
+    for (act, told) in acts {
+        expect(rt, tell(rt, alloc, machine, 1, *act) == *told, "told");
+    }
+    expect(
+        rt,
+        written(rt, alloc, machine).as_slice() == want,
+        "its checkpoint",
+    );
+}
+
+/// The spool that a script begins with.
+fn beginning<R: Abort>(rt: &R, alloc: Global, checkpoint: &[u8]) -> Machine<Payload> {
+    if checkpoint.is_empty() {
+        return new_machine(rt, alloc, SMALL);
+    }
+    read_checkpoint(alloc, HeadForm::Second, SMALL, checkpoint).expect(rt, "no fault")
+}
+
+/// Makes scripts.
+fn expect_scripts<R: Abort>(rt: &R, alloc: Global, scripts: &[Script]) {
+    for (begins, acts, ends) in scripts {
+        expect_acts(rt, alloc, &mut beginning(rt, alloc, *begins), *acts, *ends);
+    }
+}
+
+#[test]
+fn worked_scripts(rt: HostRuntime) {
+    expect_scripts(&rt, rt.alloc(), &SCRIPTS);
+}
+
+/// One datagram was released, the next one is in flight, and a third one waits.
+const RESTORED: [u8; 125] = [
+    // six commands were accepted, and the last number of peer 1 is 3
+    0, 0, 0, 0, 0, 0, 0, 6, 0, 0, 0, 0, 0, 0, 0, 3,
+    // the hop's last moment
+    0, 0, 0, 0, 0, 0, 20,
+    // CoDel's state
+    0, 0, 0, 0, 0, 0, 0, 0, 0, 0, 0, 0, 0, 0, 0, 0, 0, 0, 0, 0, 0, 0, 0, 0, 0, 0, 0,
+    // three datagrams were taken, none dropped, one released, and none has expired
+    0, 0, 0, 0, 0, 3, 0, 0, 0, 0, 0, 0, 0, 0, 0, 0, 0, 1, 0, 0, 0, 0, 0, 0,
+    // one is in flight, and one waits
+    0, 1, 0, 0, 0, 1,
+    // the id, stamp, limit, length, form and payload of each
+    0, 0, 0, 0, 0, 4, 0, 0, 0, 0, 0, 0, 10, 0, 0, 0, 0, 0, 0, 2, 0, 0x42, 0x42, 0, 0, 0, 0, 0, 5,
+    0, 0, 0, 0, 0, 0, 20, 0, 0, 0, 0, 0, 0, 1, 0, 0x43,
+];
+
+/// The same once one more was taken, and what waited was picked.
+const GONE_ON: [u8; 148] = [
+    // eight commands were accepted, and the last number of peer 1 is 4
+    0, 0, 0, 0, 0, 0, 0, 8, 0, 0, 0, 0, 0, 0, 0, 4,
+    // the hop's last moment
+    0, 0, 0, 0, 0, 0, 31,
+    // CoDel's state
+    0, 0, 0, 0, 0, 0, 0, 0, 0, 0, 0, 0, 0, 0, 0, 0, 0, 0, 0, 0, 0, 0, 0, 0, 0, 0, 0,
+    // four datagrams were taken, none dropped, one released, and none has expired
+    0, 0, 0, 0, 0, 4, 0, 0, 0, 0, 0, 0, 0, 0, 0, 0, 0, 1, 0, 0, 0, 0, 0, 0,
+    // two are in flight, and one waits
+    0, 2, 0, 0, 0, 1,
+    // the id, stamp, limit, length, form and payload of each
+    0, 0, 0, 0, 0, 4, 0, 0, 0, 0, 0, 0, 10, 0, 0, 0, 0, 0, 0, 2, 0, 0x42, 0x42, 0, 0, 0, 0, 0, 5,
+    0, 0, 0, 0, 0, 0, 20, 0, 0, 0, 0, 0, 0, 1, 0, 0x43, 0, 0, 0, 0, 0, 7, 0, 0, 0, 0, 0, 0, 30, 0,
+    0, 0, 0, 0, 0, 2, 0, 0x44, 0x44,
+];
 
 /// A list of one item, without a limit.
 fn alone<R: Abort>(rt: &R, alloc: Global, id: u64, stamp: u64, bytes: &[u8]) -> Vec<Item<Payload>>
@@ -95,7 +177,6 @@ fn alone<R: Abort>(rt: &R, alloc: Global, id: u64, stamp: u64, bytes: &[u8]) -> 
 
 /// One item was released, the next one is in flight, and a third one waits.
 fn restored<R: Abort>(rt: &R, alloc: Global) -> Machine<Payload>
-    ensures waits { length (hop_at result.state (record { 0 = 1 })).queue ≡ 1 }
     ensures first { carried_at length (live_line (hop_at result.state (record { 0 = 1 }))) 0 ≡ Some 2 }
     ensures second { carried_at length (live_line (hop_at result.state (record { 0 = 1 }))) 1 ≡ Some 1 }
 {
@@ -116,89 +197,25 @@ fn restored<R: Abort>(rt: &R, alloc: Global) -> Machine<Payload>
     Machine::restore(SMALL, 6, lasts, hops).expect(rt, "memory")
 }
 
-/// A spool that nothing has come to, restored.
-fn restored_empty<R: Abort>(rt: &R, alloc: Global) -> Machine<Payload> {
-    let lasts = vec![in alloc; 0u64].expect(rt, "memory");
-    let hop = Hop {
-        queue: Queue::new(alloc),
-        flight: VecDeque::new(alloc),
-        codel: CodelState::NEW,
-        moment: 0,
-        taken: 0,
-        dropped: 0,
-        expired: 0,
-        released: 0,
-    };
-    let hops = vec![in alloc; hop].expect(rt, "memory");
-    Machine::restore(SMALL, 0, lasts, hops).expect(rt, "memory")
-}
-
-/// It has what it was restored from.
-fn expect_restored<R: Abort>(rt: &R, machine: &Machine<Payload>)
-    requires { length (hop_at machine.now.state (record { 0 = 1 })).queue ≡ 1 }
-{
-    machine.law_sound();
-    expect!(rt; machine.seq() == 6 && machine.last(PeerId(1)) == 3);
-    expect!(rt; machine.params() == SMALL);
-    expect!(rt; machine.lasts() == [3].as_slice());
-    assert!(rt; machine.hops().len() == 1);
-    expect!(rt; machine.queued(HopId(1), 0).payload.as_slice() == b"C".as_slice());
-}
-
 /// Its last datagram was taken, three bytes more don't fit, and two do. Then what waited is picked.
-const GOES_ON: [(Act<'static>, Told); 4] = [
-    (
-        Act::Take {
-            number: 3,
-            stamp: 30,
-            bytes: b"C",
-        },
-        Told::Already(3),
-    ),
-    (
-        Act::Take {
-            number: 4,
-            stamp: 30,
-            bytes: b"DDD",
-        },
-        Told::Refused(Refusal::Full),
-    ),
-    (
-        Act::Take {
-            number: 4,
-            stamp: 30,
-            bytes: b"DD",
-        },
-        Told::Taken(7),
-    ),
+const GOES_ON: Acts = &[
+    (Act::Take(3, 30, b"C"), Told::Already(3)),
+    (Act::Take(4, 30, b"DDD"), Told::Refused(Refusal::Full)),
+    (Act::Take(4, 30, b"DD"), Told::Taken(7)),
     (Act::Pick(31), Told::Picked { number: 3, id: 5 }),
 ];
 
-/// It goes on where it was. The bytes of what is in flight and of what waits are given.
+/// A spool goes on where it was. What it carries differs from the worked checkpoints in this.
 fn expect_gone_on<R: Abort>(
     rt: &R,
     alloc: Global,
     machine: &mut Machine<Payload>,
-    flying: &[u8],
-    waiting: &[u8],
+    differs: Changes<'_>,
 ) {
-    expect!(rt; is_in_flight(machine, 2, (4, 10, flying)));
-    expect!(rt; (machine.item_count(), machine.byte_count()) == (2, 3));
-    expect_told(rt, alloc, machine, &GOES_ON);
-    expect!(rt; is_in_flight(machine, 3, (5, 20, waiting)));
-}
-
-/// Checks both of a restored spool.
-fn expect_restored_spool<R: Abort>(rt: &R, alloc: Global) {
-    let mut machine = restored(rt, alloc);
-    expect_restored(rt, &machine);
-    expect_gone_on(rt, alloc, &mut machine, b"BB", b"C");
-}
-
-/// A restored spool goes on where it was, its bytes in flight counted: two more fit, three don't.
-#[test]
-fn a_restored_spool_goes_on(rt: HostRuntime) {
-    expect_restored_spool(&rt, rt.alloc());
+    let before = changed(rt, alloc, &RESTORED, 125, differs);
+    expect_acts(rt, alloc, machine, &[], &before);
+    let after = changed(rt, alloc, &GONE_ON, 148, differs);
+    expect_acts(rt, alloc, machine, GOES_ON, &after);
 }
 
 /// The spool of one item in flight and one that waits, in which one of them carries other bytes.
@@ -212,37 +229,25 @@ fn relocated<R: Abort>(rt: &R, alloc: Global, index: usize, bytes: &[u8]) -> Mac
     machine
 }
 
-/// Checks that such a spool goes on.
-fn expect_relocated<R: Abort>(rt: &R, alloc: Global) {
-    expect_gone_on(rt, alloc, &mut relocated(rt, alloc, 0, b"ZZ"), b"ZZ", b"C");
-    expect_gone_on(rt, alloc, &mut relocated(rt, alloc, 1, b"Z"), b"BB", b"Z");
+/// A restored spool has what it was restored from, and goes on: two bytes more fit, three don't. Where an item is relocated, it carries
+/// what was put in its place, and nothing else changes.
+fn expect_restored<R: Abort>(rt: &R, alloc: Global) {
+    expect_gone_on(rt, alloc, &mut restored(rt, alloc), &[]);
+    expect_gone_on(
+        rt,
+        alloc,
+        &mut relocated(rt, alloc, 0, b"ZZ"),
+        &[&[101, b'Z', b'Z']],
+    );
+    expect_gone_on(
+        rt,
+        alloc,
+        &mut relocated(rt, alloc, 1, b"Z"),
+        &[&[124, b'Z']],
+    );
 }
 
-/// The item in flight carries what was put in its place, and nothing else changed. So does one that waits, once it is picked.
 #[test]
-fn items_are_relocated(rt: HostRuntime) {
-    expect_relocated(&rt, rt.alloc());
-}
-
-/// The largest datagram that fits is taken.
-const BEGINS: [(Act<'static>, Told); 1] = [(
-    Act::Take {
-        number: 1,
-        stamp: 900,
-        bytes: b"ABCDE",
-    },
-    Told::Taken(1),
-)];
-
-/// Checks that a spool is as new.
-fn expect_begun<R: Abort>(rt: &R, alloc: Global, machine: &mut Machine<Payload>) {
-    machine.law_sound();
-    expect!(rt; machine.seq() == 0 && machine.last(PeerId(1)) == 0);
-    expect_told(rt, alloc, machine, &BEGINS);
-}
-
-/// An empty one takes its first datagram.
-#[test]
-fn an_empty_restored_spool_begins(rt: HostRuntime) {
-    expect_begun(&rt, rt.alloc(), &mut restored_empty(&rt, rt.alloc()));
+fn restored_spools_go_on(rt: HostRuntime) {
+    expect_restored(&rt, rt.alloc());
 }

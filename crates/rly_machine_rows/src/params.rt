@@ -1,97 +1,107 @@
 //! The limits of a spool's parameters, and the texts of refusals.
+use crate::expect::expect;
 use rly_core::{Params, Refusal};
 use std::alloc::Global;
 use std::process::Abort;
 
-/// Each parameter as small as it may be.
-const LEAST: Params = Params {
-    hops: 1,
-    peers: 1,
-    window: 1,
-    items: 1,
-    bytes: 1,
-    maxpacket: 0,
-    target: 1,
-    interval: 1,
-    payload: 1,
-};
+/// Hops, peers, the window, items, bytes, `maxpacket`, the target, the interval and the longest payload.
+type Row = [u64; 9];
 
-/// Each as great as it may be.
-const GREATEST: Params = Params {
-    hops: 64,
-    peers: 64,
-    window: 64,
-    items: 16_384,
-    bytes: 16_777_216,
-    maxpacket: 65_535,
-    target: 3_600_000_000,
-    interval: 3_600_000_000,
-    payload: 8_192,
-};
+const HOUR: u64 = 3_600_000_000;
 
-/// One parameter out of its limits.
-const BEYOND: [Params; 14] = [
-    Params {
-        hops: 65_537,
-        ..LEAST
-    },
-    Params {
-        hops: 65,
-        ..GREATEST
-    },
-    Params {
-        peers: 65,
-        ..GREATEST
-    },
-    Params { peers: 0, ..LEAST },
-    Params {
-        window: 65,
-        ..GREATEST
-    },
-    Params {
-        items: 16_385,
-        ..GREATEST
-    },
-    Params {
-        bytes: 16_777_217,
-        ..GREATEST
-    },
-    Params {
-        maxpacket: 65_536,
-        ..GREATEST
-    },
-    Params { target: 0, ..LEAST },
-    Params { target: 2, ..LEAST },
-    Params {
-        interval: 3_600_000_001,
-        ..GREATEST
-    },
-    Params {
-        payload: 0,
-        ..LEAST
-    },
-    Params {
-        payload: 8_193,
-        ..GREATEST
-    },
-    Params {
-        payload: 66_736,
-        ..GREATEST
-    },
-];
+const OVER: u64 = 3_600_000_001;
 
-/// Each limit is met and not passed, and the default is within them.
-fn expect_limits<R: Abort>(rt: &R) {
-    expect!(rt; Params::default().check() == Ok(()));
-    expect!(rt; LEAST.check().is_ok() && GREATEST.check().is_ok());
-    for params in &BEYOND {
-        assert!(rt; params.check() == Err(Refusal::BadGeometry), "{params:?}");
+const DEFAULT: Row = [4, 4, 8, 1_024, 1_048_576, 1_500, 5_000, 100_000, 1_200];
+
+/// Whether parameters are within their limits. First the default, and each as small as it may be, and as great; then one is out of them.
+fn rows() -> &'static [(bool, Row)] {
+    &[
+        (true, DEFAULT),
+        (true, [1, 1, 1, 1, 1, 0, 1, 1, 1]),
+        (
+            true,
+            [64, 64, 64, 16_384, 16_777_216, 65_535, HOUR, HOUR, 8_192],
+        ),
+        (false, [65_537, 1, 1, 1, 1, 0, 1, 1, 1]),
+        (
+            false,
+            [65, 64, 64, 16_384, 16_777_216, 65_535, HOUR, HOUR, 8_192],
+        ),
+        (
+            false,
+            [64, 65, 64, 16_384, 16_777_216, 65_535, HOUR, HOUR, 8_192],
+        ),
+        (false, [1, 0, 1, 1, 1, 0, 1, 1, 1]),
+        (
+            false,
+            [64, 64, 65, 16_384, 16_777_216, 65_535, HOUR, HOUR, 8_192],
+        ),
+        (
+            false,
+            [64, 64, 64, 16_385, 16_777_216, 65_535, HOUR, HOUR, 8_192],
+        ),
+        (
+            false,
+            [64, 64, 64, 16_384, 16_777_217, 65_535, HOUR, HOUR, 8_192],
+        ),
+        (
+            false,
+            [64, 64, 64, 16_384, 16_777_216, 65_536, HOUR, HOUR, 8_192],
+        ),
+        (false, [1, 1, 1, 1, 1, 0, 0, 1, 1]),
+        (false, [1, 1, 1, 1, 1, 0, 2, 1, 1]),
+        (
+            false,
+            [64, 64, 64, 16_384, 16_777_216, 65_535, HOUR, OVER, 8_192],
+        ),
+        (false, [1, 1, 1, 1, 1, 0, 1, 1, 0]),
+        (
+            false,
+            [64, 64, 64, 16_384, 16_777_216, 65_535, HOUR, HOUR, 8_193],
+        ),
+        (
+            false,
+            [64, 64, 64, 16_384, 16_777_216, 65_535, HOUR, HOUR, 66_736],
+        ),
+    ]
+}
+
+fn params_of(row: Row) -> Params {
+    let [
+        hops,
+        peers,
+        window,
+        items,
+        bytes,
+        maxpacket,
+        target,
+        interval,
+        payload,
+    ] = row;
+    Params {
+        hops,
+        peers,
+        window,
+        items,
+        bytes,
+        maxpacket,
+        target,
+        interval,
+        payload,
     }
 }
 
 #[test]
 fn each_limit_is_met_and_not_passed(rt: HostRuntime) {
-    expect_limits(&rt);
+    assert!(rt; Params::default() == params_of(DEFAULT));
+    for (is_within, row) in rows() {
+        let want = if *is_within {
+            Ok(())
+        } else {
+            Err(Refusal::BadGeometry)
+        };
+        assert!(rt; params_of(*row).check() == want, "{row:?}");
+    }
 }
 
 /// Refusals, and what is printed of each: its number, its text and its value.
@@ -103,15 +113,15 @@ const PRINTED: [(Refusal, &str); 5] = [
     (Refusal::Overlap, "refused 52 plan"),
 ];
 
-/// Checks what is printed of a refusal.
-fn expect_printed<R: Abort>(rt: &R, alloc: Global, refusal: Refusal, line: &str) {
-    let printed = refusal.to_string(alloc).expect(rt, "memory");
-    expect!(rt; printed.as_str() == line);
+/// Checks what is printed of each.
+fn expect_printed<R: Abort>(rt: &R, alloc: Global) {
+    for (refusal, line) in &PRINTED {
+        let printed = refusal.to_string(alloc).expect(rt, "memory");
+        expect(rt, printed.as_str() == *line, *line);
+    }
 }
 
 #[test]
 fn refusals_print_their_number_text_and_value(rt: HostRuntime) {
-    for (refusal, line) in &PRINTED {
-        expect_printed(&rt, rt.alloc(), *refusal, *line);
-    }
+    expect_printed(&rt, rt.alloc());
 }

@@ -1,9 +1,32 @@
-//! A payload that no line of the program can give, since a line has at most 20,480 bytes.
-
+//! Payloads: their bytes, and one that no line of the program can give, since a line has at most 20,480 bytes.
+use crate::bytes::changed;
 use crate::commands::{Act, Told, new_machine, tell};
+use crate::expect::expect;
 use rly_core::{Params, Refusal};
+use rly_machine::Payload;
 use std::alloc::Global;
 use std::process::Abort;
+
+/// Makes payloads of bytes, and asks for these again. No more is reserved for a copy than twice its length, and nothing for one without
+/// bytes.
+fn expect_given_back<R: Abort>(rt: &R, alloc: Global, bytes: &[u8]) {
+    let payload = Payload::copy_of(alloc, bytes).expect(rt, "memory");
+    let is_same = payload.as_slice() == bytes;
+    let copy = Payload::new(payload.into_bytes()).into_bytes();
+    let is_small = copy.capacity() / 2 <= bytes.len();
+    expect(
+        rt,
+        is_same && is_small && copy.as_slice() == bytes,
+        "given back",
+    );
+}
+
+#[test]
+fn payloads_give_their_bytes_back(rt: HostRuntime) {
+    for bytes in [[].as_slice(), b"abcdefghijklmnop", &[7; 1_200], &[7; 8_192]] {
+        expect_given_back(&rt, rt.alloc(), bytes);
+    }
+}
 
 /// One hop and one peer, and room for two of the longest payloads.
 const LONG: Params = Params {
@@ -16,14 +39,10 @@ const LONG: Params = Params {
 
 /// Checks that so many bytes are too long.
 fn expect_too_long<R: Abort>(rt: &R, alloc: Global, size: usize) {
-    let bytes = vec![in alloc; 7u8; size].expect(rt, "memory");
-    let act = Act::Take {
-        number: 1,
-        stamp: 0,
-        bytes: &bytes,
-    };
-    let told = tell(rt, alloc, &mut new_machine(rt, alloc, LONG), act);
-    expect!(rt; told == Told::Refused(Refusal::TooLong));
+    let bytes = changed(rt, alloc, &[], size, &[]);
+    let act = Act::Take(1, 0, &bytes);
+    let told = tell(rt, alloc, &mut new_machine(rt, alloc, LONG), 1, act);
+    expect(rt, told == Told::Refused(Refusal::TooLong), "too long");
 }
 
 /// In 16 bits its length would be 8,192, which is the most.

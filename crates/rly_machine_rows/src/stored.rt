@@ -4,6 +4,8 @@ ghost use Rattle.std.specs.Prelude.{All};
 ghost use Rattle.rly_checkpoint.specs.Forms.{HaveForms};
 ghost use Rattle.rly_checkpoint.specs.Stored.{IsStorable};
 
+use crate::bytes::{Changes, changed};
+use crate::expect::expect;
 use rly_checkpoint::{
     DecodeFault, HeadForm, Stored, append_state, law_inline, law_one_spelling, most_len, read_state,
 };
@@ -65,11 +67,26 @@ const OLD_SPELLED: [u8; 153] = [
     0, 0, 0, 0, 0, 0, 0, 6, 0, 0, 0, 0, 0, 0, 0, 20, 0, 0, 0,
 ];
 
-/// Where the length of the first entry ends.
-const FIRST_LENGTH: usize = 99;
-
-/// Where the form of the third one stands.
-const THIRD_FORM: usize = 148;
+/// The state after one more was taken, which has expired. What is in flight has the greatest limit, and the greatest place.
+const LIMITED: [u8; 149] = [
+    // seven commands were accepted, and the last number of peer 1 is 5
+    0, 0, 0, 0, 0, 0, 0, 7, 0, 0, 0, 0, 0, 0, 0, 5,
+    // the hop's last moment
+    0, 0, 0, 0, 0, 0, 20,
+    // CoDel's state
+    0, 0, 0, 0, 0, 0, 0, 0, 0, 0, 0, 0, 0, 0, 0, 0, 0, 0, 0, 0, 0, 0, 0, 0, 0, 0, 0,
+    // five datagrams were taken, none dropped, one released, and one has expired
+    0, 0, 0, 0, 0, 5, 0, 0, 0, 0, 0, 0, 0, 0, 0, 0, 0, 1, 0, 0, 0, 0, 0, 1,
+    // one is in flight, and two wait
+    0, 1, 0, 0, 0, 2,
+    // the id, stamp, limit, length, form and place of the first
+    0, 0, 0, 0, 0, 4, 0, 0, 0, 0, 0, 0, 10, 0xff, 0xff, 0xff, 0xff, 0xff, 0, 2, 1, 0xff, 0xff,
+    0xff, 0xff, 0xff,
+    // the id, stamp, limit, length and form of the second, and its payload
+    0, 0, 0, 0, 0, 5, 0, 0, 0, 0, 0, 0, 20, 0, 0, 0, 0, 0, 0, 1, 0, 0x43,
+    // the third, which has none
+    0, 0, 0, 0, 0, 6, 0, 0, 0, 0, 0, 0, 20, 0, 0, 0, 0, 0, 0, 0, 0,
+];
 
 /// What a spool has: the limit and the place of what is in flight, how much is live, and what was taken and has expired.
 #[derive(Clone, Copy, PartialEq, Eq)]
@@ -124,6 +141,15 @@ const SEEN: Seen = Seen {
     expired: 0,
 };
 
+/// The same after one more was taken.
+const LIMITED_SEEN: Seen = Seen {
+    limit: 1_099_511_627_775,
+    place: (1_099_511_627_775, 2),
+    taken: 5,
+    expired: 1,
+    ..SEEN
+};
+
 /// A spool is spelled in the room that it has at most.
 fn spelled<R: Abort>(rt: &R, alloc: Global, machine: &Machine<Stored>) -> Vec<u8>
     requires { All (HaveForms (IsStorable HeadForm.Second)) machine.now.state.hops }
@@ -134,48 +160,24 @@ fn spelled<R: Abort>(rt: &R, alloc: Global, machine: &Machine<Stored>) -> Vec<u8
 }
 
 /// Reads a state of the second form, and spells it.
-fn expect_spelled<R: Abort>(rt: &R, alloc: Global, bytes: &[u8], seen: Seen) {
+fn expect_spelled<R: Abort>(rt: &R, alloc: Global, bytes: &[u8]) {
     let machine: Machine<Stored> = read_state(alloc, HeadForm::Second, PARAMS, bytes).expect(
         rt, "no fault",
     );
-    expect!(rt; seen_of(&machine) == seen);
-    expect!(rt; spelled(rt, alloc, &machine).as_slice() == bytes);
+    expect(
+        rt,
+        spelled(rt, alloc, &machine).as_slice() == bytes,
+        "its spelling",
+    );
 }
 
 #[test]
-fn a_state_with_places_is_read_and_spelled(rt: HostRuntime) {
+fn states_with_places_and_limits_are_spelled_as_they_were(rt: HostRuntime) {
     law_inline();
     law_one_spelling::<Stored>();
-    expect_spelled(&rt, rt.alloc(), &SPELLED, SEEN);
-}
-
-/// The state after one more was taken, which has expired. What is in flight has the greatest limit, and the greatest place.
-fn limited() -> [u8; 149] {
-    let mut bytes = SPELLED;
-    // the counts of commands, of the peer, of what was taken and of what has expired
-    bytes[7] = 7;
-    bytes[15] = 5;
-    bytes[55] = 5;
-    bytes[73] = 1;
-    for index in 93..98 {
-        bytes[index] = 0xff;
-        bytes[index + 8] = 0xff;
+    for bytes in [SPELLED, LIMITED] {
+        expect_spelled(&rt, rt.alloc(), &bytes);
     }
-    bytes
-}
-
-const LIMITED_SEEN: Seen = Seen {
-    limit: 1_099_511_627_775,
-    place: (1_099_511_627_775, 2),
-    items: 3,
-    bytes: 3,
-    taken: 5,
-    expired: 1,
-};
-
-#[test]
-fn a_state_with_limits_is_read_and_spelled(rt: HostRuntime) {
-    expect_spelled(&rt, rt.alloc(), &limited(), LIMITED_SEEN);
 }
 
 /// What a state has that is read of a form for a spool of so long payloads. Where it is none, nothing is read.
@@ -196,40 +198,44 @@ fn seen_in<R: Abort>(
     }
 }
 
-/// A form, the worked state of it, the longest payload of a spool, and what is read for it. The payload that stands by place has two
-/// bytes: more than the spool's longest where that has one.
-const STATES: [(HeadForm, &[u8], u64, Option<Seen>); 6] = [
-    (HeadForm::First, &OLD_SPELLED, 1_200, Some(SEEN)),
-    (HeadForm::First, &OLD_SPELLED, 2, Some(SEEN)),
-    (HeadForm::First, &OLD_SPELLED, 1, None),
-    (HeadForm::Second, &SPELLED, 1_200, Some(SEEN)),
-    (HeadForm::Second, &SPELLED, 2, Some(SEEN)),
-    (HeadForm::Second, &SPELLED, 1, None),
-];
+/// A form, a state in it, a spool's longest payload, and what is read.
+fn read() -> &'static [(HeadForm, &'static [u8], u64, Seen)] {
+    &[
+        (HeadForm::First, &OLD_SPELLED, 1_200, SEEN),
+        (HeadForm::First, &OLD_SPELLED, 2, SEEN),
+        (HeadForm::Second, &SPELLED, 1_200, SEEN),
+        (HeadForm::Second, &SPELLED, 2, SEEN),
+        (HeadForm::Second, &LIMITED, 1_200, LIMITED_SEEN),
+    ]
+}
+
+/// The same, how many bytes of the state there are, and what differs in it, of which nothing is read.
+fn refused() -> &'static [(HeadForm, &'static [u8], u64, usize, Changes<'static>)] {
+    &[
+        // the payload that stands by place has two bytes: more than the longest
+        (HeadForm::First, &OLD_SPELLED, 1, 153, &[]),
+        (HeadForm::Second, &SPELLED, 1, 149, &[]),
+        // a place of no bytes, another form of the third payload, and the spelling without its last byte
+        (HeadForm::Second, &SPELLED, 1_200, 149, &[&[99, 0]]),
+        (HeadForm::Second, &SPELLED, 1_200, 149, &[&[148, 2]]),
+        (HeadForm::Second, &SPELLED, 1_200, 148, &[]),
+    ]
+}
 
 /// Reads them.
 fn expect_states<R: Abort>(rt: &R, alloc: Global) {
-    for (form, bytes, payload, want) in &STATES {
-        expect!(rt; seen_in(rt, alloc, *form, *payload, *bytes) == *want);
+    for (form, bytes, payload, seen) in read() {
+        let found = seen_in(rt, alloc, *form, *payload, *bytes);
+        expect(rt, found == Some(*seen), "a state");
+    }
+    for (form, bytes, payload, length, changes) in refused() {
+        let bytes = changed(rt, alloc, *bytes, *length, *changes);
+        let found = seen_in(rt, alloc, *form, *payload, &bytes);
+        expect(rt, found == None, "no state");
     }
 }
 
 #[test]
-fn states_of_both_forms_are_read_for_payloads_so_long(rt: HostRuntime) {
+fn states_of_both_forms_are_read(rt: HostRuntime) {
     expect_states(&rt, rt.alloc());
-}
-
-/// A place of no bytes, another form, and the spelling without its last byte are no state.
-fn expect_only_spellings<R: Abort>(rt: &R, alloc: Global) {
-    for (index, byte) in [(FIRST_LENGTH, 0), (THIRD_FORM, 2)] {
-        let mut bytes = SPELLED;
-        bytes[index] = byte;
-        expect!(rt; seen_in(rt, alloc, HeadForm::Second, 1_200, &bytes) == None);
-    }
-    expect!(rt; seen_in(rt, alloc, HeadForm::Second, 1_200, &SPELLED[..THIRD_FORM]) == None);
-}
-
-#[test]
-fn only_spellings_of_places_are_read(rt: HostRuntime) {
-    expect_only_spellings(&rt, rt.alloc());
 }
