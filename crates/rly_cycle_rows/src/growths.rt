@@ -1,18 +1,31 @@
-//! Calls of a journal where one growth of memory is refused (`bench/scarce_memory`): each says so, and keeps what it promises.
-use crate::comparison::{fetched, is_answered};
-use crate::cycles::{after_cycles, before_the_picks, expect_in_flight};
-use crate::device::{THREE, device_with, opened, tried};
-use crate::opening::TAKEN_AND_PICKED;
-use crate::script::{Step, calls_of};
-use crate::told::{Told, is_told};
+//! Calls of a journal where one growth of memory is refused (`bench/scarce_memory`): each says so,
+//! and keeps what it promises.
+use crate::cycles::{THIRD_TAKES, TWO_CYCLES, begin, is_starved, new_machine, step};
+use crate::device::{THREE, new_device, opened, put};
+use crate::script::{Heard, Kind, Round, Step, Told, ask, fetched};
 use rly_core::Refusal;
 use rly_disk::{Disk, MemDisk, Torn};
 use rly_journal::Journal;
-use rly_machine::{Answer, Machine, Payload, Reply};
+use rly_machine::{Machine, Payload};
 use rly_scarce::{before, was_refused};
 use rly_standing::OpenFault;
 use std::alloc::Global;
 use std::process::Abort;
+
+/// The gate after the first head: 64 bytes of header, 13 before the head's body, and 8, 8 and 64 of the body.
+const FIRST_GATE: u64 = 157;
+
+/// A group of one Take, of the payload "abc" for hop 1, and one of a Pick there.
+const TAKEN_AND_PICKED: [u8; 51] = [
+    // an open gate, the length of the body, and the count of its records
+    0xa5, 0, 0, 0, 28, 0, 1,
+    // a Take: peer 1, number 1, hop 1, stamp 5, and a payload of three bytes
+    1, 0, 1, 0, 0, 0, 0, 0, 0, 0, 1, 0, 1, 0, 0, 0, 0, 0, 0, 0, 5, 0, 3, 0x61, 0x62, 0x63,
+    // a group of one record
+    0xa5, 0, 0, 0, 13, 0, 1,
+    // a Pick: hop 1 at moment 6
+    2, 0, 1, 0, 0, 0, 0, 0, 0, 0, 6,
+];
 
 /// What a crash may leave of the bytes that were written since the last sync.
 const KINDS: [Torn; 5] = [
@@ -23,18 +36,19 @@ const KINDS: [Torn; 5] = [
     Torn::Split(1),
 ];
 
-/// What is refused is handed back as it was, and is opened where there is memory.
-#[test]
-fn opening(rt: HostRuntime) {
-    expect_opening(&rt, rt.alloc());
+/// A device on which those groups stand.
+fn taken_and_picked<R: Abort>(rt: &R, alloc: Global) -> MemDisk {
+    let mut disk = new_device(rt, alloc, &THREE);
+    put(rt, &mut disk, FIRST_GATE, &TAKEN_AND_PICKED);
+    disk
 }
 
-fn expect_opening(rt: &impl Abort, alloc: Global) {
-    let disk = device_with(rt, alloc, &TAKEN_AND_PICKED);
+/// Opens a disk, and hands it back.
+fn tried<R: Abort>(rt: &R, alloc: Global, disk: MemDisk) -> MemDisk {
     before(alloc).expect(rt, "memory");
-    let told = tried(alloc, disk);
+    let told = Journal::open(alloc, disk);
     let refused = was_refused(alloc);
-    let disk = match told {
+    match told {
         Ok(journal) => journal.into_disk(),
         Err((fault, disk)) => {
             let failed = disk.failures() > 0;
@@ -42,8 +56,31 @@ fn expect_opening(rt: &impl Abort, alloc: Global) {
             expect!(rt; fault == if failed { OpenFault::Device } else { OpenFault::OutOfMemory });
             disk
         }
-    };
+    }
+}
+
+fn expect_opening<R: Abort>(rt: &R, alloc: Global) {
+    let disk = tried(rt, alloc, taken_and_picked(rt, alloc));
     expect!(rt; opened(rt, alloc, disk).position() == 2);
+}
+
+/// What is refused is handed back as it was, and is opened where there is memory.
+#[test]
+fn opening(rt: HostRuntime) {
+    expect_opening(&rt, rt.alloc());
+}
+
+fn expect_fetched<R: Abort>(rt: &R, alloc: Global, journal: &mut Journal<MemDisk>) {
+    before(alloc).expect(rt, "memory");
+    let told = fetched(alloc, journal, (1, 1), b"abc");
+    let refused = was_refused(alloc);
+    expect!(rt; told == Ok(true) || refused && told == Err(Refusal::OutOfMemory));
+    expect!(rt; journal.position() == 2 && !journal.is_broken());
+}
+
+fn expect_fetch<R: Abort>(rt: &R, alloc: Global) {
+    let mut journal = opened(rt, alloc, taken_and_picked(rt, alloc));
+    expect_fetched(rt, alloc, &mut journal);
 }
 
 #[test]
@@ -51,153 +88,89 @@ fn a_fetch(rt: HostRuntime) {
     expect_fetch(&rt, rt.alloc());
 }
 
-fn expect_fetch(rt: &impl Abort, alloc: Global) {
-    let mut journal = opened(rt, alloc, device_with(rt, alloc, &TAKEN_AND_PICKED));
-    before(alloc).expect(rt, "memory");
-    let told = fetched(alloc, &mut journal, 1);
-    let refused = was_refused(alloc);
-    match told {
-        Ok(bytes) => expect!(rt; bytes.as_slice() == b"abc".as_slice()),
-        Err(refusal) => expect!(rt; refused && refusal == Refusal::OutOfMemory),
-    }
-    expect!(rt; journal.position() == 2 && !journal.is_broken());
-}
-
-/// Two cycles: 64 datagrams were taken and picked, of which 32 are in flight, and no segment is due. Or the takes of the third too: then a
-/// segment is due.
-fn begun(rt: &impl Abort, alloc: Global, due: bool) -> (Journal<MemDisk>, Machine<Payload>) {
-    if due {
-        before_the_picks(rt, alloc, 3)
-    } else {
-        after_cycles(rt, alloc, &THREE, 2)
-    }
-}
-
 /// A round that releases a datagram, takes the next one, picks one and fetches it.
-fn steps_in_scarce_memory(due: bool) -> [Step; 4] {
+fn steps(due: bool) -> [Step; 4] {
     [
-        Step::Release { number: 33 },
-        Step::Take {
-            number: if due { 97 } else { 65 },
-            stamp: 0,
-            length: 1_200,
-        },
-        Step::Pick { now: 0 },
-        Step::Fetch { number: 65 },
+        step(Kind::Release, 33),
+        step(Kind::Take, if due { 97 } else { 65 }),
+        step(Kind::Pick, 65),
+        step(Kind::Fetch, 65),
     ]
 }
 
-/// Expects each answer to be the plain machine's, or refused memory where it may want some. The machine makes what wasn't refused.
-/// Says whether something was.
-fn expect_answers(
-    rt: &impl Abort,
-    alloc: Global,
-    machine: &mut Machine<Payload>,
-    answers: &[Answer],
-    due: bool,
-) -> bool {
-    let mut starved = false;
-    for (step, answer) in steps_in_scarce_memory(due).into_iter().zip(answers) {
-        if is_refused(&answer.reply, Refusal::OutOfMemory) {
-            expect!(rt; !matches!(step, Step::Release { .. }) && answer.position == machine.seq());
-            starved = true;
-        } else {
-            let ask = step.ask(rt, alloc);
-            expect!(rt; is_answered(rt, alloc, machine, ask, answer));
-        }
-    }
-    starved
-}
-
-/// Whether a reply is a refusal, and which.
-fn is_refused(reply: &Reply, refusal: Refusal) -> bool {
-    is_told(reply, Told::refused(refusal))
-}
-
 /// Whether all are refused alike.
-fn are_all(answers: &[Answer], refusal: Refusal) -> bool {
-    let mut are_all = true;
-    for answer in answers {
-        are_all = are_all && is_refused(&answer.reply, refusal);
-    }
-    are_all
-}
-
-/// What a round was told.
-#[derive(Drop)]
-struct Round {
-    answers: Vec<Answer>,
-    /// Whether the whole round was refused for want of memory.
-    undone: bool,
-    /// Whether a growth was refused in it.
-    refused: bool,
-}
-
-/// Asks a round, in which a growth may be refused.
-fn asked(rt: &impl Abort, alloc: Global, journal: &mut Journal<MemDisk>, due: bool) -> Round {
-    let mut calls = calls_of(rt, alloc, &steps_in_scarce_memory(due));
-    let mut answers = Vec::new(alloc);
-    assert!(rt; calls.len() == 4);
-    before(alloc).expect(rt, "memory");
-    let undone = journal.round(alloc, &mut calls, &mut answers).is_err();
-    let refused = was_refused(alloc);
-    Round {
-        answers,
-        undone,
-        refused,
-    }
+fn are_all(heard: &[Heard], refusal: Refusal) -> bool {
+    heard
+        .iter()
+        .all(|(told, _position)| *told == Told::Refused(refusal))
 }
 
 /// Expects of a round what it is told: the answers of the plain machine, or that memory was refused. Where the disk in memory could not
 /// grow, and the journal is broken, all are told unsure.
-fn expect_round_told(
-    rt: &impl Abort,
+fn expect_told<R: Abort>(
+    rt: &R,
     alloc: Global,
     round: &Round,
     broken: bool,
     machine: &mut Machine<Payload>,
     due: bool,
 ) {
-    let answers = round.answers.as_slice();
-    expect!(rt; answers.len() == if round.undone { 0 } else { 4 });
+    let heard = round.heard.as_slice();
     if broken {
-        expect!(rt; round.refused && are_all(answers, Refusal::Unsure));
-    } else if are_all(answers, Refusal::OutOfMemory) {
+        expect!(rt; round.refused && are_all(heard, Refusal::Unsure));
+    } else if are_all(heard, Refusal::OutOfMemory) {
         expect!(rt; round.refused && (round.undone || due));
     } else {
-        let starved = expect_answers(rt, alloc, machine, answers, due);
+        let starved = is_starved(rt, alloc, machine, &steps(due), heard);
         expect!(rt; round.refused || !starved);
     }
 }
 
-/// What a crash leaves stands for the commands that were accepted; of a broken journal it may stand for the whole round too.
-fn expect_left(
-    rt: &impl Abort,
+/// Asks the round of a journal after some cycles. How many commands were accepted then, and how many may stand on the device: of a broken
+/// journal the whole round may.
+fn expect_asked<R: Abort>(
+    rt: &R,
     alloc: Global,
-    journal: Journal<MemDisk>,
-    kind: Torn,
-    (accepted, whole): (u64, u64),
+    journal: &mut Journal<MemDisk>,
+    due: bool,
+) -> (u64, u64) {
+    let mut machine = new_machine(rt, alloc);
+    let rounds = if due { THIRD_TAKES } else { TWO_CYCLES };
+    begin(rt, alloc, journal, &mut machine, rounds);
+    let whole = machine.seq().saturating_add(3);
+    let told = ask(rt, alloc, journal, &steps(due), true);
+    let broken = journal.is_broken();
+    expect_told(rt, alloc, &told, broken, &mut machine, due);
+    let accepted = machine.seq();
+    (accepted, if broken { whole } else { accepted })
+}
+
+/// Expects a journal to be at one of these positions, and those to be in flight that no round of these released or picked.
+fn expect_left<R: Abort>(
+    rt: &R,
+    alloc: Global,
+    journal: &mut Journal<MemDisk>,
+    (one, other): (u64, u64),
 ) {
+    let position = journal.position();
+    expect!(rt; position == one || position == other);
+    for number in 34..=64u64 {
+        let bytes = [number.to_be_bytes()[7]; 1_200];
+        expect!(rt; fetched(alloc, journal, (1, number), &bytes) == Ok(true), number);
+    }
+}
+
+/// What a crash leaves of a device after a round stands for the commands that were accepted.
+fn expect_round<R: Abort>(rt: &R, alloc: Global, due: bool, kind: Torn) {
+    let mut journal = opened(rt, alloc, new_device(rt, alloc, &THREE));
+    let left = expect_asked(rt, alloc, &mut journal, due);
     let broken = journal.is_broken();
     let disk = journal.into_disk();
     expect!(rt; broken == (disk.failures() > 0));
-    let mut again = opened(rt, alloc, disk.crash(kind));
-    let position = again.position();
-    expect!(rt; position == accepted || broken && position == whole);
-    expect_in_flight(rt, alloc, &mut again, 34, 64);
+    expect_left(rt, alloc, &mut opened(rt, alloc, disk.crash(kind)), left);
 }
 
-/// A round, before which a segment is opened or not, and a crash.
-fn expect_round(rt: &impl Abort, alloc: Global, due: bool, kind: Torn) {
-    let (journal, mut machine) = begun(rt, alloc, due);
-    let mut journal = journal;
-    let whole = machine.seq().saturating_add(3);
-    let round = asked(rt, alloc, &mut journal, due);
-    expect_round_told(rt, alloc, &round, journal.is_broken(), &mut machine, due);
-    expect_left(rt, alloc, journal, kind, (machine.seq(), whole));
-}
-
-fn expect_rounds(rt: &impl Abort, alloc: Global, due: bool) {
+fn expect_rounds<R: Abort>(rt: &R, alloc: Global, due: bool) {
     for kind in KINDS {
         expect_round(rt, alloc, due, kind);
     }

@@ -1,9 +1,9 @@
-//! Tests of a journal that goes through many rounds and segments: worked cycles, openings, and
-//! growths of memory that are refused.
+//! Tests of a journal on a device of three segments, which are opened in turn, and on one of 256:
+//! growths of memory that are refused, what an opening reads, and great numbers.
 //!
-//! They compare its answers, and the state that it is opened to, with those of the plain machine
-//! run beside, on disks in memory of two to 256 segments. They use the built libraries, so that
-//! these are proved once. The crate has no code but tests, so no crate may call it.
+//! What a run of the program shows of such devices is in `tests/test_segments.py`. The tests here
+//! use the built libraries, so that these are proved once. The crate has no code but tests, so no
+//! crate may call it.
 #![tactic(auto)]
 
 /// As `assert!`, by one call: the prover then sees one way on where `assert!` has two. `assert!` stands where a later call needs
@@ -21,8 +21,6 @@ macro_rules! expect {
 #[cfg(test)]
 mod broad;
 #[cfg(test)]
-mod comparison;
-#[cfg(test)]
 mod cycles;
 #[cfg(test)]
 mod device;
@@ -31,12 +29,6 @@ mod expect;
 #[cfg(test)]
 mod growths;
 #[cfg(test)]
-mod many_segments;
-#[cfg(test)]
 mod opening;
 #[cfg(test)]
-mod rounds;
-#[cfg(test)]
 mod script;
-#[cfg(test)]
-mod told;

@@ -1,91 +1,175 @@
-//! What is asked of a spool of one hop and one peer, a round at a time.
-use rly_core::{HopId, PeerId};
-use rly_disk::Disk;
+//! What is asked of a journal, and what it tells, as small values that are compared.
+use rly_core::{HopId, PeerId, Refusal};
+use rly_disk::MemDisk;
 use rly_journal::Journal;
-use rly_machine::{Answer, Ask, Call, Command, Payload, Query, SeatId};
+use rly_machine::{Answer, Ask, Call, Command, Payload, Query, Reply, SeatId};
+use rly_scarce::{before, was_refused};
 use std::alloc::Global;
 use std::process::Abort;
 
-/// The one hop.
-pub(crate) const HOP: HopId = HopId(1);
-
-/// What is asked at hop 1, of peer 1.
-#[derive(Clone, Copy)]
-pub(crate) enum Step {
-    /// Takes a payload of so many bytes, each the number's lowest, without a limit.
-    Take {
-        number: u64,
-        stamp: u64,
-        length: usize,
-    },
-    Pick {
-        now: u64,
-    },
-    Release {
-        number: u64,
-    },
-    Fetch {
-        number: u64,
-    },
+/// What is asked.
+#[derive(Clone, Copy, PartialEq, Eq)]
+pub(crate) enum Kind {
+    /// Of 1,200 bytes, each of which is the step's, without a limit.
+    Take,
+    Pick,
+    Fetch,
+    Release,
 }
 
-impl Step {
-    /// What is asked of a spool.
-    pub(crate) fn ask(self, rt: &impl Abort, alloc: Global) -> Ask {
-        match self {
-            Step::Take {
-                number,
-                stamp,
-                length,
-            } => Ask::Command(Command::Take {
-                peer: PeerId(1),
-                number,
-                hop: HOP,
-                stamp,
-                limit: 0,
-                payload: payload_of(rt, alloc, number, length),
-            }),
-            Step::Pick { now } => Ask::Command(Command::Pick { hop: HOP, now }),
-            Step::Release { number } => Ask::Command(Command::Release { hop: HOP, number }),
-            Step::Fetch { number } => Ask::Query(Query::Fetch { hop: HOP, number }),
-        }
+/// What is asked of a hop, and of the peer of its number.
+#[derive(Clone, Copy)]
+pub(crate) struct Step {
+    pub(crate) kind: Kind,
+    pub(crate) id: u16,
+    pub(crate) number: u64,
+    pub(crate) moment: u64,
+    pub(crate) byte: u8,
+}
+
+/// What a reply tells. None of these steps finds that a datagram has expired or was dropped, or a limit.
+#[derive(Clone, Copy, PartialEq, Eq)]
+pub(crate) enum Told {
+    /// An id.
+    Taken(u64),
+    /// A number, and an id.
+    Picked(u64, u64),
+    /// 1,200 bytes, each of which is this one.
+    Bytes(u8),
+    Released(u64),
+    Refused(Refusal),
+}
+
+/// What an answer tells, and how many commands were accepted then.
+pub(crate) type Heard = (Told, u64);
+
+pub(crate) fn ask_of<R: Abort>(rt: &R, alloc: Global, step: Step) -> Ask {
+    let hop = HopId(step.id);
+    let number = step.number;
+    match step.kind {
+        Kind::Take => Ask::Command(Command::Take {
+            peer: PeerId(step.id),
+            number,
+            hop,
+            stamp: step.moment,
+            limit: 0,
+            payload: Payload::new(vec![in alloc; step.byte; 1_200].expect(rt, "memory")),
+        }),
+        Kind::Pick => Ask::Command(Command::Pick {
+            hop,
+            now: step.moment,
+        }),
+        Kind::Fetch => Ask::Query(Query::Fetch { hop, number }),
+        Kind::Release => Ask::Command(Command::Release { hop, number }),
     }
 }
 
-/// So many bytes, each a number's lowest.
-pub(crate) fn payload_of(rt: &impl Abort, alloc: Global, number: u64, length: usize) -> Payload {
-    Payload::new(vec![in alloc; number.to_be_bytes()[7]; length].expect(rt, "memory"))
+/// The seat that asks.
+const SEAT: SeatId = SeatId(255);
+
+/// The number of a call, counted from 0.
+fn number_of(index: usize) -> u64 {
+    1_099_511_627_776u64.saturating_add(index as u64)
 }
 
-/// The seat that asks.
-pub(crate) const SEAT: SeatId = SeatId(3);
-
-/// A call for each step, numbered in their order.
-pub(crate) fn calls_of(rt: &impl Abort, alloc: Global, steps: &[Step]) -> Vec<Call> {
+/// A call for each step.
+fn calls_of<R: Abort>(rt: &R, alloc: Global, steps: &[Step]) -> Vec<Call> {
     let mut calls = Vec::new(alloc);
     for (index, step) in steps.iter().enumerate() {
         let call = Call {
             seat: SEAT,
-            number: index as u64,
-            ask: step.ask(rt, alloc),
+            number: number_of(index),
+            ask: ask_of(rt, alloc, *step),
         };
-        calls.push(call).expect(rt, "memory");
+        calls.push(call).ok().expect(rt, "memory");
     }
     calls
 }
 
-/// The answers to some calls in one round.
-pub(crate) fn answers_to<D: Disk>(
-    rt: &impl Abort,
+/// The byte that each of 1,200 is.
+fn byte_of<R: Abort>(rt: &R, bytes: &[u8]) -> u8 {
+    let first = bytes.first().copied().unwrap_or(0);
+    expect!(rt; bytes.len() == 1_200 && bytes.iter().all(|byte| *byte == first));
+    first
+}
+
+pub(crate) fn told_by<R: Abort>(rt: &R, reply: &Reply) -> Told {
+    match reply {
+        Reply::Taken(id) => Told::Taken(*id),
+        Reply::Picked {
+            number,
+            id,
+            expired,
+            dropped,
+        } => {
+            expect!(rt; expired.as_slice().is_empty() && dropped.as_slice().is_empty());
+            Told::Picked(*number, *id)
+        }
+        Reply::Bytes { payload, limit } => {
+            expect!(rt; *limit == 0);
+            Told::Bytes(byte_of(rt, payload.as_slice()))
+        }
+        Reply::Released(count) => Told::Released(*count),
+        Reply::Refused(refusal) => Told::Refused(*refusal),
+        _ => panic!(rt; "a reply that no step has"),
+    }
+}
+
+/// What answers tell, which come in the order of the calls, each under its seat and number.
+fn heard_in<R: Abort>(rt: &R, alloc: Global, answers: &[Answer]) -> Vec<Heard> {
+    let mut heard = Vec::new(alloc);
+    for (index, answer) in answers.iter().enumerate() {
+        expect!(rt; answer.seat == SEAT && answer.number == number_of(index));
+        let told = told_by(rt, &answer.reply);
+        heard.push((told, answer.position)).expect(rt, "memory");
+    }
+    heard
+}
+
+/// What a round was told.
+#[derive(Drop)]
+pub(crate) struct Round {
+    pub(crate) heard: Vec<Heard>,
+    /// Whether the whole round was refused for want of memory.
+    pub(crate) undone: bool,
+    /// Whether a growth was refused in it.
+    pub(crate) refused: bool,
+}
+
+/// Asks all steps in one round. Where memory is to be scarce, there are marks around it (`rly_scarce`).
+pub(crate) fn ask<R: Abort>(
+    rt: &R,
     alloc: Global,
-    journal: &mut Journal<D>,
-    calls: Vec<Call>,
-) -> Vec<Answer> {
-    let mut calls = calls;
+    journal: &mut Journal<MemDisk>,
+    steps: &[Step],
+    scarce: bool,
+) -> Round {
+    let mut calls = calls_of(rt, alloc, steps);
     let mut answers = Vec::new(alloc);
-    let count = calls.len();
-    assert!(rt; 1 <= count && count <= 64);
-    let told = journal.round(alloc, &mut calls, &mut answers);
-    expect!(rt; told.is_ok() && calls.is_empty() && answers.len() == count);
-    answers
+    assert!(rt; 1 <= calls.len() && calls.len() <= 64);
+    if scarce {
+        before(alloc).expect(rt, "memory");
+    }
+    let undone = journal.round(alloc, &mut calls, &mut answers).is_err();
+    let refused = scarce && was_refused(alloc);
+    expect!(rt; undone || calls.is_empty());
+    expect!(rt; answers.len() == if undone { 0 } else { steps.len() });
+    Round {
+        heard: heard_in(rt, alloc, &answers),
+        undone,
+        refused,
+    }
+}
+
+/// Fetches what a hop has in flight: whether it has these bytes, or why it isn't given.
+pub(crate) fn fetched(
+    alloc: Global,
+    journal: &mut Journal<MemDisk>,
+    (id, number): (u16, u64),
+    wanted: &[u8],
+) -> Result<bool, Refusal> {
+    match journal.fetch(alloc, HopId(id), number) {
+        Ok(bytes) => Ok(bytes.as_slice() == wanted),
+        Err(refusal) => Err(refusal),
+    }
 }
