@@ -3,7 +3,6 @@ use rly_core::{Geometry, Params};
 use rly_disk::{Disk, MemDisk};
 use rly_journal::Journal;
 use rly_segment::format;
-use rly_standing::OpenFault;
 use std::alloc::Global;
 use std::process::Abort;
 
@@ -57,29 +56,28 @@ pub(crate) const LONG: Geometry = Geometry {
     length: 789_740,
 };
 
-/// A new device of a geometry, on zeroed bytes.
-fn new_device(rt: &impl Abort, alloc: Global, geometry: &Geometry) -> MemDisk {
+/// The bytes of a new device of a geometry, on zeroed ones.
+pub(crate) fn new_image(rt: &impl Abort, alloc: Global, geometry: &Geometry) -> Vec<u8> {
     assert!(rt; geometry.segments <= 4 && geometry.length <= 789_740);
     let size = 64 + geometry.segments * geometry.length;
     let bytes = vec![in alloc; 0u8; size as usize].expect(rt, "memory");
     let mut disk = MemDisk::new(alloc, bytes);
     expect!(rt; format(alloc, &mut disk, geometry) == Ok(()));
-    disk
+    bytes_of(rt, alloc, &mut disk)
 }
 
-/// The bytes of a new device of a geometry.
-pub(crate) fn new_image(rt: &impl Abort, alloc: Global, geometry: &Geometry) -> Vec<u8> {
-    bytes_of(rt, alloc, &mut new_device(rt, alloc, geometry))
-}
-
-/// What opening a device gives: its journal, or why not, with the device.
-pub(crate) fn tried<D: Disk>(alloc: Global, disk: D) -> Result<Journal<D>, (OpenFault, D)> {
-    Journal::open(alloc, disk)
+/// Those of a device of version 1: a header as programs wrote it that knew no longer payloads than 1,200 bytes, and `ff` after its fields.
+pub(crate) fn first_version(rt: &impl Abort, alloc: Global) -> Vec<u8> {
+    let mut image = new_image(rt, alloc, &THREE);
+    assert!(rt; image.len() == 355_588);
+    image[10] = 1;
+    image[51..64].fill(0xff);
+    image
 }
 
 /// The journal of a device that opens.
 pub(crate) fn opened<D: Disk>(rt: &impl Abort, alloc: Global, disk: D) -> Journal<D> {
-    match tried(alloc, disk) {
+    match Journal::open(alloc, disk) {
         Ok(journal) => journal,
         Err(_) => panic!(rt; "the device doesn't open"),
     }

@@ -1,14 +1,10 @@
 //! Runs of a script on a device that fails at a chosen call.
-use crate::comparison::{
-    expect_broken, expect_refused, expect_replies, is_answered, make_all, reply_of,
-};
-use crate::device::tried;
+use crate::comparison::{are_refused, expect_broken, expect_numbers, expect_replies, make_all};
 use crate::script::{Script, Step, ask_all};
-use crate::told::is_refused;
 use rly_core::Refusal;
 use rly_disk::Disk;
 use rly_journal::Journal;
-use rly_machine::{Answer, Machine, Payload, Reply};
+use rly_machine::{Answer, Machine, Payload};
 use rly_standing::OpenFault;
 use std::alloc::Global;
 use std::process::Abort;
@@ -20,107 +16,102 @@ pub(crate) struct Ended {
     pub(crate) answered: usize,
     /// Whether the next one may stand all the same: a write or a sync failed in it.
     pub(crate) unsure: bool,
+    /// Whether the device was opened before.
+    pub(crate) again: bool,
 }
 
-/// What came of a round.
-#[derive(Clone, Copy, PartialEq, Eq)]
-enum Came {
-    /// The plain machine's answers.
-    Answered,
-    /// Reads failed. Nothing changed, and the round may be asked again.
-    Unread,
-    /// A write or a sync failed. Everything is refused from then on.
-    Unsure,
-}
-
-/// Opens a device that stands for the first rounds of a script, and asks the others of it, until the device fails for good or the
-/// script ends. The plain machine after those rounds goes on beside it. Gives the device.
+/// Opens the device that a run left, or the device of a script, and asks the rounds that don't stand yet, until the device fails for good
+/// or the script ends. The plain machine goes on beside it. Gives the device.
 pub(crate) fn run<D: Disk>(
     rt: &impl Abort,
     alloc: Global,
     disk: D,
     script: Script,
-    from: usize,
+    ended: Ended,
     machine: &mut Machine<Payload>,
 ) -> (D, Ended) {
     let (failures, failed_reads) = (disk.failures(), disk.failed_reads());
-    match tried(alloc, disk) {
+    match Journal::open(alloc, disk) {
         Ok(journal) => {
             let mut journal = journal;
-            let (ended, told) = ask_rounds(rt, alloc, &mut journal, machine, script, from);
+            let (ended, unread) = ask_rounds(rt, alloc, &mut journal, script, ended, machine);
             let disk = journal.into_disk();
-            expect!(rt; disk.failed_reads() == failed_reads.saturating_add(told));
+            expect!(rt; disk.failed_reads() == failed_reads.saturating_add(unread));
             (disk, ended)
         }
         Err((fault, disk)) => {
             expect!(rt; fault == OpenFault::Device && disk.failures() > failures);
-            let ended = Ended {
-                answered: from,
-                unsure: false,
-            };
-            (disk, ended)
+            let again = true;
+            (disk, Ended { again, ..ended })
         }
     }
 }
 
-/// Asks the rounds of a script, from one on, until the device fails for good or the script ends. A round in which a read failed is
-/// asked again. Answers how many reads were told to have failed too.
+/// Asks the rounds that don't stand yet. Answers how many reads were told to have failed too.
 fn ask_rounds<D: Disk>(
     rt: &impl Abort,
     alloc: Global,
     journal: &mut Journal<D>,
-    machine: &mut Machine<Payload>,
     script: Script,
-    from: usize,
+    ended: Ended,
+    machine: &mut Machine<Payload>,
 ) -> (Ended, u64) {
-    let (mut answered, mut told) = (from, 0);
-    for index in from..script.rounds.len() {
-        let steps = script.round(index);
-        let mut came = Came::Unread;
-        for _ in 0..2 {
-            if came == Came::Unread {
-                came = ask_round(rt, alloc, journal, machine, steps, &mut told);
-            }
-        }
-        if came != Came::Answered {
+    let mut answered = standing(rt, alloc, journal.position(), script, ended, machine);
+    if ended.again {
+        expect_numbers(rt, alloc, journal, machine);
+    }
+    let mut told: u64 = 0;
+    for index in answered..script.to {
+        let steps = script.round(rt, alloc, index);
+        let (first, again) = ask_twice(rt, alloc, journal, machine, &steps);
+        told = told.saturating_add(first).saturating_add(again);
+        if again > 0 || journal.is_broken() {
             break;
         }
         answered = index.saturating_add(1);
     }
-    let unsure = journal.is_broken();
-    (Ended { answered, unsure }, told)
+    let ended = Ended {
+        answered,
+        unsure: journal.is_broken(),
+        again: true,
+    };
+    (ended, told)
 }
 
-/// Asks a round, and says what came of it. Adds the reads that were told to have failed.
+/// Asks a round, and again if reads failed in it. Answers how many did, each time.
+fn ask_twice<D: Disk>(
+    rt: &impl Abort,
+    alloc: Global,
+    journal: &mut Journal<D>,
+    machine: &mut Machine<Payload>,
+    steps: &[Step],
+) -> (u64, u64) {
+    match ask_round(rt, alloc, journal, machine, steps) {
+        0 => (0, 0),
+        first => (first, ask_round(rt, alloc, journal, machine, steps)),
+    }
+}
+
+/// Asks a round, and expects the plain machine's answers. Where a write or a sync failed, everything is refused from then on. Where reads
+/// failed, nothing changed: answers how many did.
 fn ask_round<D: Disk>(
     rt: &impl Abort,
     alloc: Global,
     journal: &mut Journal<D>,
     machine: &mut Machine<Payload>,
     steps: &[Step],
-    told: &mut u64,
-) -> Came {
+) -> u64 {
     let position = machine.seq();
     let answers = ask_all(rt, alloc, journal, steps);
     if journal.is_broken() {
-        expect_refused(rt, &answers, Refusal::Unsure, position);
+        expect!(rt; are_refused(&answers, Refusal::Unsure, position));
         expect_broken(rt, alloc, journal, steps, position);
-        Came::Unsure
+        0
     } else {
         let unread = expect_read(rt, alloc, machine, steps, &answers);
-        *told = told.saturating_add(unread);
         expect!(rt; journal.position() == machine.seq());
-        if unread > 0 {
-            Came::Unread
-        } else {
-            Came::Answered
-        }
+        unread
     }
-}
-
-/// Whether a call is told that a read failed.
-fn is_unread(answer: &Answer) -> bool {
-    is_refused(&answer.reply, Refusal::DeviceRead)
 }
 
 /// Expects the plain machine's answers, or those of a round in which reads failed. Answers how many did.
@@ -131,39 +122,13 @@ fn expect_read(
     steps: &[Step],
     answers: &[Answer],
 ) -> u64 {
-    if !answers.iter().any(is_unread) {
-        expect_replies(rt, alloc, machine, steps, answers);
-        0
-    } else if steps.iter().any(|step| matches!(step, Step::Fetch { .. })) {
-        expect_lost(rt, alloc, machine, steps, answers)
-    } else {
+    let has_fetch = steps.iter().any(|step| matches!(step, Step::Fetch(_)));
+    if !has_fetch && are_refused(answers, Refusal::DeviceRead, machine.seq()) {
         // a read of the victim failed
-        expect_refused(rt, answers, Refusal::DeviceRead, machine.seq());
         1
+    } else {
+        expect_replies(rt, alloc, machine, steps, answers)
     }
-}
-
-/// Expects of a round without commands that each call is told that a read failed, if it is a Fetch of bytes, or answered. Answers how
-/// many are told so.
-fn expect_lost(
-    rt: &impl Abort,
-    alloc: Global,
-    machine: &mut Machine<Payload>,
-    steps: &[Step],
-    answers: &[Answer],
-) -> u64 {
-    let mut lost: u64 = 0;
-    for (step, answer) in steps.iter().zip(answers) {
-        if is_unread(answer) {
-            let reply = reply_of(rt, alloc, machine, *step);
-            expect!(rt; matches!(reply, Reply::Bytes { .. }) && answer.position == machine.seq());
-            lost = lost.saturating_add(1);
-        } else {
-            let ask = step.ask(rt, alloc);
-            expect!(rt; is_answered(rt, alloc, machine, ask, answer), machine.seq());
-        }
-    }
-    lost
 }
 
 /// The rounds that a journal at a position was opened to: those that were answered, or, where the next one is unsure, that too. Answers
@@ -181,7 +146,7 @@ pub(crate) fn standing(
     }
     // else an answer was lost
     expect!(rt; ended.unsure);
-    make_all(rt, alloc, machine, script.round(ended.answered));
+    make_all(rt, alloc, machine, &script.round(rt, alloc, ended.answered));
     // else a part of a round stands
     expect!(rt; position == machine.seq());
     ended.answered.saturating_add(1)

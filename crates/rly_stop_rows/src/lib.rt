@@ -24,15 +24,11 @@ mod carried_over;
 #[cfg(test)]
 mod comparison;
 #[cfg(test)]
-mod cycles;
-#[cfg(test)]
 mod device;
 #[cfg(test)]
 mod expect;
 #[cfg(test)]
 mod faults;
-#[cfg(test)]
-mod long_payloads;
 #[cfg(test)]
 mod old_device;
 #[cfg(test)]

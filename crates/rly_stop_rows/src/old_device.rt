@@ -1,4 +1,5 @@
-//! A device with a header of version 1 and heads of the first form, as the program of before age limits wrote it (commit facb250).
+//! A device with a header of version 1 and heads of the first form, as the program of before age
+//! limits wrote it (commit facb250).
 //!
 //! These commands wrote it. Each call of `rly play` is one round.
 //!
@@ -9,7 +10,8 @@
 //!     done
 //! }
 //! picks() { for n in $(seq 32); do echo pick 1 0; done; }
-//! rly format old.rly --hops 1 --peers 1 --window 64 --segments 3 --items 64 --bytes 76800 --length 118508
+//! rly format old.rly --hops 1 --peers 1 --window 64 --segments 3 --items 64 --bytes 76800 \
+//!     --length 118508
 //! takes 1 32     | rly play old.rly --batch 64
 //! picks          | rly play old.rly --batch 64
 //! takes 33 64    | rly play old.rly --batch 64
@@ -17,21 +19,26 @@
 //! echo done 1 32 | rly play old.rly
 //! takes 65 96    | rly play old.rly --batch 64
 //! picks          | rly play old.rly --batch 64    # opens segment 2, with a head of 39,972 bytes
-//! echo pick 1 0  | rly play old.rly               # refused 7 windowfull; opens segment 0, with a head of 39,972 bytes
+//! echo pick 1 0  | rly play old.rly               # refused 7 windowfull; opens segment 0, with
+//!                                                 # a head of 39,972 bytes
 //! ```
 //!
-//! So 64 datagrams are in flight: 33 to 64 lie in the head of segment 2, and 65 to 96 stand inline in that of segment 0, the newest.
+//! So 64 datagrams are in flight: 33 to 64 lie in the head of segment 2, and 65 to 96 stand inline
+//! in that of segment 0, the newest.
+
+use sha2::{Digest, Sha256};
+use std::alloc::Global;
+use std::process::Abort;
 
 /// How many bytes it has.
 pub(crate) const SIZE: usize = 355_588;
 
 /// Their SHA-256.
-pub(crate) const DIGEST: &[u8] =
-    b"d3be1477eadb5de2a7311051167891a84eef35d5642efcae0f4f44d0faceda95";
+const DIGEST: &[u8] = b"d3be1477eadb5de2a7311051167891a84eef35d5642efcae0f4f44d0faceda95";
 
 /// What stands at a place. In a row of several this is the first.
 #[derive(Clone, Copy)]
-pub(crate) enum Item {
+enum Item {
     /// Bytes, in hexadecimal.
     Text(&'static [u8]),
     /// A number of eight bytes, and how much more each in the row is than the one before.
@@ -44,9 +51,10 @@ use Item::{Number, Payload, Text};
 
 /// What was written, in its order: from a place on so many items, and how far apart they are. All else is 00.
 ///
-/// A head is followed by 32 entries twice, of 27 bytes by place (id, stamp, length with form 01, place) or of 1,219 inline (id, stamp, length
-/// with form 00, payload). A group's gate, length and count are followed by records: of 1,223 bytes a Take, of 11 a Pick or a Release.
-pub(crate) static ITEMS: [(usize, u64, usize, Item); 36] = [
+/// A head is followed by 32 entries twice, of 27 bytes by place (id, stamp, length with form 01, place) or of 1,219 inline (id,
+/// stamp, length with form 00, payload). A group's gate, length and count are followed by records: of 1,223 bytes a Take, of 11
+/// a Pick or a Release.
+static ITEMS: [(usize, u64, usize, Item); 36] = [
     // the header
     (
         0,
@@ -129,3 +137,49 @@ pub(crate) static ITEMS: [(usize, u64, usize, Item); 36] = [
     (277_052, 1, 0, Text(b"a5000001620020")),
     (277_059, 32, 11, Text(b"020001")),
 ];
+
+/// All of it, by a call: where a loop names it, the prover sees it at each step.
+fn items() -> &'static [(usize, u64, usize, Item)] {
+    &ITEMS
+}
+
+/// The bytes of an item, of which so many stand before it in its row.
+fn spelled(rt: &impl Abort, alloc: Global, item: Item, index: u64) -> Vec<u8> {
+    match item {
+        Text(text) => hex::decode(alloc, text)
+            .ok()
+            .expect(rt, "hexadecimal digits"),
+        Number(first, more) => {
+            let number = first.wrapping_add(more.wrapping_mul(index));
+            Vec::from_slice(alloc, &number.to_be_bytes()).expect(rt, "memory")
+        }
+        Payload(first) => {
+            vec![in alloc; first.wrapping_add((index & 0xff) as u8); 1_200].expect(rt, "memory")
+        }
+    }
+}
+
+/// Puts bytes from a place on.
+fn put(rt: &impl Abort, bytes: &mut [u8], place: usize, part: &[u8]) {
+    assert!(rt; place <= bytes.len() && part.len() <= bytes.len() - place);
+    bytes[place..place + part.len()].copy_from_slice(part);
+}
+
+/// The bytes of the device.
+pub(crate) fn stored(rt: &impl Abort, alloc: Global) -> Vec<u8> {
+    let mut bytes = vec![in alloc; 0u8; SIZE].expect(rt, "memory");
+    for (first, count, apart, item) in items() {
+        let mut place = *first;
+        for index in 0..*count {
+            put(rt, &mut bytes, place, &spelled(rt, alloc, *item, index));
+            place = place.wrapping_add(*apart);
+        }
+    }
+    bytes
+}
+
+/// These are the bytes that the older program wrote.
+pub(crate) fn expect_written(rt: &impl Abort, alloc: Global, bytes: &[u8]) {
+    let digest = spelled(rt, alloc, Text(DIGEST), 0);
+    expect!(rt; Sha256::digest(bytes).as_slice() == digest.as_slice());
+}

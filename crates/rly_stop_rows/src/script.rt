@@ -12,26 +12,19 @@ pub(crate) const HOP: HopId = HopId(1);
 /// The one peer.
 pub(crate) const PEER: PeerId = PeerId(1);
 
+/// The seat that asks.
+const SEAT: SeatId = SeatId(3);
+
 /// What is asked at hop 1, of peer 1.
 #[derive(Clone, Copy)]
 pub(crate) enum Step {
-    /// Takes a payload of so many bytes, each the number's lowest.
-    Take {
-        number: u64,
-        stamp: u64,
-        /// How long it may wait, 0 for no limit.
-        limit: u64,
-        length: usize,
-    },
-    Pick {
-        now: u64,
-    },
-    Release {
-        number: u64,
-    },
-    Fetch {
-        number: u64,
-    },
+    /// The Take of a number, at a moment, of a datagram that may wait for so long (0 is for ever) and has so many bytes, each the
+    /// number's lowest.
+    Take(u64, u64, u64, usize),
+    /// The Pick at a moment.
+    Pick(u64),
+    Release(u64),
+    Fetch(u64),
     Window,
     Show,
 }
@@ -40,12 +33,7 @@ impl Step {
     /// What is asked of a spool.
     pub(crate) fn ask(self, rt: &impl Abort, alloc: Global) -> Ask {
         match self {
-            Step::Take {
-                number,
-                stamp,
-                limit,
-                length,
-            } => Ask::Command(Command::Take {
+            Step::Take(number, stamp, limit, length) => Ask::Command(Command::Take {
                 peer: PEER,
                 number,
                 hop: HOP,
@@ -53,11 +41,22 @@ impl Step {
                 limit,
                 payload: payload_of(rt, alloc, number, length),
             }),
-            Step::Pick { now } => Ask::Command(Command::Pick { hop: HOP, now }),
-            Step::Release { number } => Ask::Command(Command::Release { hop: HOP, number }),
-            Step::Fetch { number } => Ask::Query(Query::Fetch { hop: HOP, number }),
+            Step::Pick(now) => Ask::Command(Command::Pick { hop: HOP, now }),
+            Step::Release(number) => Ask::Command(Command::Release { hop: HOP, number }),
+            Step::Fetch(number) => Ask::Query(Query::Fetch { hop: HOP, number }),
             Step::Window => Ask::Query(Query::Window { hop: HOP }),
             Step::Show => Ask::Query(Query::Show { hop: HOP }),
+        }
+    }
+
+    /// The same of a number that is so much higher.
+    fn after(self, more: u64) -> Step {
+        match self {
+            Step::Take(number, stamp, limit, length) => {
+                Step::Take(number.saturating_add(more), stamp, limit, length)
+            }
+            Step::Fetch(number) => Step::Fetch(number.saturating_add(more)),
+            _ => self,
         }
     }
 }
@@ -67,23 +66,62 @@ fn payload_of(rt: &impl Abort, alloc: Global, number: u64, length: usize) -> Pay
     Payload::new(vec![in alloc; number.to_be_bytes()[7]; length].expect(rt, "memory"))
 }
 
-/// Takes so many bytes, without a limit.
-pub(crate) fn take(number: u64, stamp: u64, length: usize) -> Step {
-    take_within(number, stamp, 0, length)
+/// A round.
+#[derive(Clone, Copy)]
+pub(crate) enum Round {
+    /// A step so many times, each of the next number.
+    Of(Step, u64),
+    /// From one of the mixed steps on so many, of so many bytes.
+    Mixed(u64, u64, usize),
+    /// What is held from a number on, of two.
+    Held(u64),
 }
 
-/// Takes so many bytes, which may wait for so long.
-pub(crate) fn take_within(number: u64, stamp: u64, limit: u64, length: usize) -> Step {
-    Step::Take {
-        number,
-        stamp,
-        limit,
-        length,
+impl Round {
+    fn len(self) -> u64 {
+        match self {
+            Round::Of(_step, count) => count,
+            Round::Mixed(_first, count, _length) => count,
+            Round::Held(_number) => 6,
+        }
+    }
+
+    /// A step of a round, counted from 0.
+    fn step(self, index: u64) -> Step {
+        match self {
+            Round::Of(step, _count) => step.after(index),
+            Round::Mixed(first, _count, length) => mixed(first.saturating_add(index), length),
+            Round::Held(number) => held(number.saturating_add(index / 3), index % 3),
+        }
     }
 }
 
-/// The seat that asks.
-const SEAT: SeatId = SeatId(3);
+/// Mixed step number `index`. Three datagrams of each ten steps are taken, picked and released.
+fn mixed(index: u64, length: usize) -> Step {
+    let first = 3 * (index.min(1_000) / 10);
+    let moment = 1_000 * index.min(1_000);
+    match index % 10 {
+        0 => Step::Take(first + 1, moment, 0, length),
+        1 => Step::Take(first + 2, moment, 0, length),
+        2 | 6 | 8 => Step::Pick(moment),
+        3 => Step::Window,
+        4 | 5 => Step::Take(first + 3, moment, 0, length),
+        7 => Step::Release(first + 2),
+        _ => Step::Take(first + 5, moment, 0, length),
+    }
+}
+
+/// Steps that each take a datagram of 250 bytes, pick one that was taken seven before, and release one that was taken 14 before: 14 or
+/// more are live once as many were taken, and lie in three segments.
+fn held(number: u64, index: u64) -> Step {
+    match index {
+        0 => Step::Take(number, 0, 0, 250),
+        1 if number > 7 => Step::Pick(0),
+        1 => Step::Window,
+        _ if number > 14 => Step::Release(number - 14),
+        _ => Step::Show,
+    }
+}
 
 /// Rounds that are asked of a device of a geometry. A round that holds a command holds no Fetch.
 #[derive(Clone, Copy)]
@@ -91,34 +129,25 @@ pub(crate) struct Script<'a> {
     pub(crate) geometry: Geometry,
     /// The device's bytes.
     pub(crate) image: &'a [u8],
-    /// What was asked of the device before: nothing of a new one.
-    pub(crate) before: &'a [Step],
-    pub(crate) rounds: &'a [Vec<Step>],
+    /// The rounds that the device stands for, and those that are asked of it.
+    pub(crate) rounds: &'static [Round],
+    /// How many it stands for: none if it is new.
+    pub(crate) from: usize,
+    /// How many there are in the end.
+    pub(crate) to: usize,
 }
 
-impl<'a> Script<'a> {
-    /// A round, counted from 0; empty after the last.
-    pub(crate) fn round(&self, index: usize) -> &'a [Step] {
-        match self.rounds.get(index) {
-            Some(round) => round.as_slice(),
-            None => &[],
+impl Script<'_> {
+    /// The steps of a round, counted from 0; none after the last.
+    pub(crate) fn round(&self, rt: &impl Abort, alloc: Global, index: usize) -> Vec<Step> {
+        let mut steps = Vec::new(alloc);
+        if let Some(round) = self.rounds.get(index) {
+            for index in 0..round.len() {
+                steps.push(round.step(index)).expect(rt, "memory");
+            }
         }
+        steps
     }
-}
-
-/// Steps in rounds of so many each, fewer in the last.
-pub(crate) fn in_rounds(
-    rt: &impl Abort,
-    alloc: Global,
-    steps: &[Step],
-    calls: usize,
-) -> Vec<Vec<Step>> {
-    let mut rounds = Vec::new(alloc);
-    for round in steps.chunks(calls.max(1)) {
-        let round = Vec::from_slice(alloc, round).expect(rt, "memory");
-        rounds.push(round).ok().expect(rt, "memory");
-    }
-    rounds
 }
 
 /// A call for each step, numbered in their order.
@@ -135,20 +164,13 @@ fn calls_of(rt: &impl Abort, alloc: Global, steps: &[Step]) -> Vec<Call> {
     calls
 }
 
-/// The answers to some calls in one round.
-fn answers_to<D: Disk>(
-    rt: &impl Abort,
-    alloc: Global,
-    journal: &mut Journal<D>,
-    calls: Vec<Call>,
-) -> Vec<Answer> {
-    let mut calls = calls;
-    let mut answers = Vec::new(alloc);
-    let count = calls.len();
-    assert!(rt; 1 <= count && count <= 64);
-    let told = journal.round(alloc, &mut calls, &mut answers);
-    expect!(rt; told.is_ok() && calls.is_empty() && answers.len() == count);
-    answers
+/// Whether there are so many answers, each under its seat and number.
+fn are_numbered(answers: &[Answer], count: usize) -> bool {
+    let mut are_numbered = answers.len() == count;
+    for (index, answer) in answers.iter().enumerate() {
+        are_numbered = are_numbered && answer.seat == SEAT && answer.number == index as u64;
+    }
+    are_numbered
 }
 
 /// Asks all steps in one round. The answers come in the order of the calls, each under its seat and number.
@@ -158,15 +180,11 @@ pub(crate) fn ask_all<D: Disk>(
     journal: &mut Journal<D>,
     steps: &[Step],
 ) -> Vec<Answer> {
-    let answers = answers_to(rt, alloc, journal, calls_of(rt, alloc, steps));
-    expect_numbered(rt, &answers, steps.len());
+    let mut calls = calls_of(rt, alloc, steps);
+    let mut answers = Vec::new(alloc);
+    let count = calls.len();
+    assert!(rt; 1 <= count && count <= 64);
+    let told = journal.round(alloc, &mut calls, &mut answers);
+    expect!(rt; told.is_ok() && calls.is_empty() && are_numbered(&answers, steps.len()));
     answers
-}
-
-/// Expects so many answers, each under its seat and number.
-fn expect_numbered(rt: &impl Abort, answers: &[Answer], count: usize) {
-    expect!(rt; answers.len() == count);
-    for (index, answer) in answers.iter().enumerate() {
-        expect!(rt; answer.seat == SEAT && answer.number == index as u64);
-    }
 }

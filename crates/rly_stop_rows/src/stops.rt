@@ -1,119 +1,126 @@
-//! A script on a device that is stopped at each of its calls in turn, and then crashes, or goes on.
-use crate::comparison::{expect_numbers, expect_state, make_all};
-use crate::device::{bytes_of, opened};
+//! A script on a device that is stopped at each of its calls in turn, and then crashes, or goes
+//! on.
+use crate::comparison::{expect_state, make_all};
+use crate::device::{bytes_of, head_at, opened};
 use crate::faults::{Ended, run, standing};
 use crate::script::Script;
 use rly_audit::audit;
-use rly_core::Params;
 use rly_disk::{After, Disk, FaultDisk, MemDisk, Torn};
 use rly_machine::{Machine, Payload};
 use std::alloc::Global;
 use std::process::Abort;
 
-/// What a crash may leave of the bytes that were written since the last sync.
-const KINDS: [Torn; 5] = [
-    Torn::AsRead,
-    Torn::AsSynced,
-    Torn::Fill(0xa5),
-    Torn::Fill(0),
-    Torn::Split(1),
+/// How a script is tried.
+#[derive(Clone, Copy)]
+pub(crate) enum Trial {
+    /// Without a failure it makes so many calls, its opening's among them, and so many of them are syncs. This is the generation of each
+    /// segment in the end, 0 where its gate is closed.
+    Costs(u64, u64, &'static [u8]),
+    /// The same, and each of these calls fails, and none.
+    Walked(u64, u64, &'static [u8]),
+    /// After so many rounds a segment's head has this gate, generation and length field.
+    Head(usize, u64, [u8; 13]),
+    /// Each call from one to another fails.
+    Fails(u64, u64),
+    /// Of so many rounds each call from one to the last stops the device, and none does.
+    Stops(usize, u64, u64),
+}
+
+/// How a device fails: how many bytes a failing write puts, and what a crash leaves then of the bytes that were written since the last
+/// sync, or `None` where the device goes on.
+type Way = (u64, Option<Torn>);
+
+/// Each way: those of the first torn write, and then of the others.
+static ALL: [Way; 18] = [
+    (0, Some(Torn::AsRead)),
+    (0, Some(Torn::AsSynced)),
+    (0, Some(Torn::Fill(0xa5))),
+    (0, Some(Torn::Fill(0))),
+    (0, Some(Torn::Split(1))),
+    (0, None),
+    (1, Some(Torn::AsRead)),
+    (1, Some(Torn::AsSynced)),
+    (1, Some(Torn::Fill(0xa5))),
+    (1, Some(Torn::Fill(0))),
+    (1, Some(Torn::Split(1))),
+    (1, None),
+    (1_000, Some(Torn::AsRead)),
+    (1_000, Some(Torn::AsSynced)),
+    (1_000, Some(Torn::Fill(0xa5))),
+    (1_000, Some(Torn::Fill(0))),
+    (1_000, Some(Torn::Split(1))),
+    (1_000, None),
 ];
 
-/// In which ways a device fails at a call.
-#[derive(Clone, Copy)]
-pub(crate) struct Ways<'a> {
-    /// How many bytes a failing write puts.
-    torn: &'a [u64],
-    /// What is left of a device that stopped.
-    kinds: &'a [Torn],
-    /// Whether it goes on in another run.
-    goes_on: bool,
-}
-
-/// Each way.
-pub(crate) const ALL: Ways = Ways {
-    torn: &[0, 1, 1_000],
-    kinds: &KINDS,
-    goes_on: true,
-};
-
 /// It stops, and leaves what reads showed, or bytes `a5` in all that wasn't synced.
-pub(crate) const STOPS: Ways = Ways {
-    torn: &[1],
-    kinds: &[Torn::AsRead, Torn::Fill(0xa5)],
-    goes_on: false,
-};
+static STOPS: [Way; 2] = [(1, Some(Torn::AsRead)), (1, Some(Torn::Fill(0xa5)))];
 
-/// What a script without a failure asks of its device.
-#[derive(Clone, Copy)]
-pub(crate) struct Costs<'a> {
-    /// How many calls it makes, its opening's among them.
-    pub(crate) calls: u64,
-    /// How many of them are syncs.
-    pub(crate) syncs: u64,
-    /// The generation of each segment in the end, 0 where its gate is closed.
-    pub(crate) generations: &'a [u8],
-}
-
-/// Walks a script: without a failure, stopped at each device call, and with each call failing.
-pub(crate) fn walk(rt: &impl Abort, alloc: Global, script: Script, costs: Costs) {
-    expect_costs(rt, alloc, script, costs);
-    walk_part(rt, alloc, script, (1, costs.calls), ALL);
-    expect_last(rt, alloc, script, costs.calls, ALL);
+/// Tries a script.
+pub(crate) fn try_script(rt: &impl Abort, alloc: Global, script: Script, trial: Trial) {
+    match trial {
+        Trial::Costs(calls, syncs, generations) => {
+            expect_costs(rt, alloc, script, (calls, syncs), generations)
+        }
+        Trial::Walked(calls, syncs, generations) => {
+            expect_costs(rt, alloc, script, (calls, syncs), generations);
+            fail_each(rt, alloc, script, (1, calls), &ALL);
+            expect_last(rt, alloc, script, calls, &ALL);
+        }
+        Trial::Head(to, segment, head) => {
+            let bytes = image_after(rt, alloc, Script { to, ..script });
+            expect!(rt; head_at(rt, &bytes, &script.geometry, segment) == head, segment);
+        }
+        Trial::Fails(first, last) => fail_each(rt, alloc, script, (first, last), &ALL),
+        Trial::Stops(to, first, last) => {
+            fail_each(rt, alloc, Script { to, ..script }, (first, last), &STOPS);
+            expect_last(rt, alloc, Script { to, ..script }, last, &STOPS);
+        }
+    }
 }
 
 /// Has each of these device calls fail, all of which the script makes.
-pub(crate) fn walk_part(
+fn fail_each(
     rt: &impl Abort,
     alloc: Global,
     script: Script,
     (first, last): (u64, u64),
-    ways: Ways,
+    ways: &'static [Way],
 ) {
     let mut left = [false; 2];
     for at in first..=last {
-        let failed = fail_at(rt, alloc, script, at, ways, &mut left);
-        expect!(rt; failed != Failed::Nothing, at);
+        let counted = fail_at(rt, alloc, script, at, ways, &mut left);
+        expect!(rt; counted.failures > 0, at);
     }
     // a round that was stopped stands now and then
     expect!(rt; left == [true; 2]);
 }
 
 /// Expects that a script makes no device call after this one.
-pub(crate) fn expect_last(rt: &impl Abort, alloc: Global, script: Script, last: u64, ways: Ways) {
-    let at = last.saturating_add(1);
-    let failed = fail_at(rt, alloc, script, at, ways, &mut [false; 2]);
-    expect!(rt; failed == Failed::Nothing);
+fn expect_last(rt: &impl Abort, alloc: Global, script: Script, last: u64, ways: &'static [Way]) {
+    let counted = fail_at(
+        rt,
+        alloc,
+        script,
+        last.saturating_add(1),
+        ways,
+        &mut [false; 2],
+    );
+    expect!(rt; counted.failures == 0);
 }
 
-/// A new plain machine.
-fn machine_of(rt: &impl Abort, alloc: Global, params: Params) -> Machine<Payload> {
+/// The plain machine of the rounds that a device stands for.
+fn new_machine(rt: &impl Abort, alloc: Global, script: Script) -> Machine<Payload> {
+    let params = script.geometry.params;
     assert!(rt; params.check().is_ok());
-    Machine::new(alloc, params).expect(rt, "memory")
-}
-
-/// The plain machine before a script.
-pub(crate) fn new_machine(rt: &impl Abort, alloc: Global, script: Script) -> Machine<Payload> {
-    let mut machine = machine_of(rt, alloc, script.geometry.params);
-    make_all(rt, alloc, &mut machine, script.before);
+    let mut machine = Machine::new(alloc, params).expect(rt, "memory");
+    for index in 0..script.from {
+        make_all(rt, alloc, &mut machine, &script.round(rt, alloc, index));
+    }
     machine
 }
 
 /// A device that may fail at a call.
 type Device = FaultDisk<MemDisk>;
-
-/// The device of a script, which fails at a call.
-fn failing(
-    rt: &impl Abort,
-    alloc: Global,
-    script: Script,
-    at: u64,
-    torn: u64,
-    after: After,
-) -> Device {
-    let bytes = Vec::from_slice(alloc, script.image).expect(rt, "memory");
-    FaultDisk::new(MemDisk::new(alloc, bytes), at, torn, after)
-}
 
 /// What a device counted.
 #[derive(Clone, Copy)]
@@ -124,6 +131,14 @@ struct Counted {
     failed_reads: u64,
 }
 
+/// What one counted that wasn't called.
+const NOTHING: Counted = Counted {
+    calls: 0,
+    syncs: 0,
+    failures: 0,
+    failed_reads: 0,
+};
+
 fn counts_of(disk: &Device) -> Counted {
     Counted {
         calls: disk.calls(),
@@ -133,25 +148,29 @@ fn counts_of(disk: &Device) -> Counted {
     }
 }
 
-impl Counted {
-    /// The call that failed, the first one at least.
-    fn failed(self) -> Failed {
-        if self.failures == 0 {
-            Failed::Nothing
-        } else if self.failed_reads > 0 {
-            Failed::Read
-        } else {
-            Failed::Settling
-        }
-    }
+/// Runs a script on its device, which fails at a call, beside a plain machine.
+fn run_new(
+    rt: &impl Abort,
+    alloc: Global,
+    script: Script,
+    (at, torn, after): (u64, u64, After),
+    machine: &mut Machine<Payload>,
+) -> (Device, Ended) {
+    let bytes = Vec::from_slice(alloc, script.image).expect(rt, "memory");
+    let disk = FaultDisk::new(MemDisk::new(alloc, bytes), at, torn, after);
+    let new = Ended {
+        answered: script.from,
+        unsure: false,
+        again: false,
+    };
+    run(rt, alloc, disk, script, new, machine)
 }
 
 /// The bytes that a script leaves on its device, where nothing fails, and what it counted.
 fn left_by(rt: &impl Abort, alloc: Global, script: Script) -> (Vec<u8>, Counted) {
     let mut machine = new_machine(rt, alloc, script);
-    let disk = failing(rt, alloc, script, 0, 0, After::Stops);
-    let (disk, ended) = run(rt, alloc, disk, script, 0, &mut machine);
-    expect!(rt; ended.answered == script.rounds.len());
+    let (disk, ended) = run_new(rt, alloc, script, (0, 0, After::Stops), &mut machine);
+    expect!(rt; ended.answered == script.to);
     let counted = counts_of(&disk);
     let mut disk = disk;
     (bytes_of(rt, alloc, &mut disk), counted)
@@ -159,17 +178,21 @@ fn left_by(rt: &impl Abort, alloc: Global, script: Script) -> (Vec<u8>, Counted)
 
 /// The bytes that a script leaves on its device, asked beside the plain machine.
 pub(crate) fn image_after(rt: &impl Abort, alloc: Global, script: Script) -> Vec<u8> {
-    let (bytes, _) = left_by(rt, alloc, script);
-    bytes
+    left_by(rt, alloc, script).0
 }
 
 /// Expects of a script without a failure what it asks of its device.
-pub(crate) fn expect_costs(rt: &impl Abort, alloc: Global, script: Script, costs: Costs) {
+fn expect_costs(
+    rt: &impl Abort,
+    alloc: Global,
+    script: Script,
+    costs: (u64, u64),
+    generations: &[u8],
+) {
     let (bytes, counted) = left_by(rt, alloc, script);
-    expect!(rt; counted.failures == 0);
-    expect!(rt; counted.calls == costs.calls && counted.syncs == costs.syncs);
+    expect!(rt; counted.failures == 0 && (counted.calls, counted.syncs) == costs);
     let mut gate = 64;
-    for generation in costs.generations {
+    for generation in generations {
         expect!(rt; has_generation(&bytes, gate, *generation));
         gate = gate.saturating_add(script.geometry.length as usize);
     }
@@ -182,119 +205,78 @@ fn has_generation(bytes: &[u8], gate: usize, generation: u8) -> bool {
         && (!is_open || bytes.get(gate.saturating_add(8)) == Some(&generation))
 }
 
-/// The call of a device that failed.
-#[derive(Clone, Copy, PartialEq, Eq)]
-pub(crate) enum Failed {
-    /// None did.
-    Nothing,
-    /// A read: nothing was put, however many bytes a failing write puts.
-    Read,
-    /// A write or a sync.
-    Settling,
-}
-
-/// Fails the device at a call of a script, with each torn write if it is one. Tells `left` whether a round stood that was not
-/// answered, and answers what failed.
+/// Fails the device at a call of a script in each way, or, if that call is a read, in those of the first torn write: a read puts nothing.
+/// Tells `left` whether a round stood that was not answered. Answers what the device counted.
 fn fail_at(
     rt: &impl Abort,
     alloc: Global,
     script: Script,
     at: u64,
-    ways: Ways,
+    ways: &'static [Way],
     left: &mut [bool; 2],
-) -> Failed {
-    let mut failed = Failed::Settling;
-    for torn in ways.torn {
-        if failed == Failed::Settling {
-            failed = fail_torn(rt, alloc, script, (at, *torn), ways, left);
+) -> Counted {
+    let mut counted = NOTHING;
+    for (index, way) in ways.iter().enumerate() {
+        if index < 6 || (counted.failures > 0 && counted.failed_reads == 0) {
+            let now = fail_once(rt, alloc, script, (at, *way), left);
+            // in each way the same call fails
+            expect!(rt; index == 0 || (now.failed_reads > 0) == (counted.failed_reads > 0), at);
+            counted = now;
         }
     }
-    failed
+    counted
 }
 
-/// The same with one torn write: stops the script and crashes in each way, and goes on.
-fn fail_torn(
+/// The same in one way.
+fn fail_once(
     rt: &impl Abort,
     alloc: Global,
     script: Script,
-    (at, torn): (u64, u64),
-    ways: Ways,
+    (at, (torn, kind)): (u64, Way),
     left: &mut [bool; 2],
-) -> Failed {
-    let mut failed = Failed::Nothing;
-    for kind in ways.kinds {
-        failed = stop_in_way(rt, alloc, script, (at, torn, *kind), left);
+) -> Counted {
+    let mut machine = new_machine(rt, alloc, script);
+    match kind {
+        Some(kind) => stop(rt, alloc, script, (at, torn, kind), left, &mut machine),
+        None => go_on(rt, alloc, script, (at, torn), &mut machine),
     }
-    if ways.goes_on {
-        expect!(rt; go_on(rt, alloc, script, at, torn) == failed, at);
-    }
-    failed
 }
 
 /// Stops the script at a call, and crashes in one way.
-fn stop_in_way(
+fn stop(
     rt: &impl Abort,
     alloc: Global,
     script: Script,
     (at, torn, kind): (u64, u64, Torn),
     left: &mut [bool; 2],
-) -> Failed {
-    let mut machine = new_machine(rt, alloc, script);
-    let disk = failing(rt, alloc, script, at, torn, After::Stops);
-    let (disk, ended) = run(rt, alloc, disk, script, 0, &mut machine);
+    machine: &mut Machine<Payload>,
+) -> Counted {
+    let (disk, ended) = run_new(rt, alloc, script, (at, torn, After::Stops), machine);
     let counted = counts_of(&disk);
-    let failed = counted.failed();
-    expect!(rt; (failed != Failed::Nothing) == (counted.calls >= at));
-    expect!(rt; failed != Failed::Nothing || ended.answered == script.rounds.len());
-    let stand = expect_crashed(rt, alloc, script, disk, ended, kind, &mut machine);
+    expect!(rt; (counted.failures > 0) == (counted.calls >= at));
+    expect!(rt; counted.failures > 0 || ended.answered == script.to);
+    let stand = expect_crashed(rt, alloc, script, disk, kind, ended, machine);
     left[usize::from(stand > ended.answered)] = true;
-    failed
+    counted
 }
 
-/// Crashes the device of a run that ended, opens what is left, and expects the state of the rounds that stand. Answers how many
-/// these are.
-fn expect_crashed(
+/// Fails the device at one call, opens it again, and goes on from the state that was found to the end of the script.
+fn go_on(
     rt: &impl Abort,
     alloc: Global,
     script: Script,
-    disk: Device,
-    ended: Ended,
-    kind: Torn,
+    (at, torn): (u64, u64),
     machine: &mut Machine<Payload>,
-) -> usize {
-    let disk = expect_balance(rt, alloc, disk.into_inner().crash(kind));
-    let mut journal = opened(rt, alloc, disk);
-    let stand = standing(rt, alloc, journal.position(), script, ended, machine);
-    expect_state(rt, alloc, &mut journal, machine);
-    stand
-}
-
-/// Expects that an audit reports of a device that its books balance. Answers the disk.
-fn expect_balance(rt: &impl Abort, alloc: Global, disk: MemDisk) -> MemDisk {
-    let mut report = Vec::new(alloc);
-    match audit(alloc, disk, &mut report) {
-        Ok(disk) => {
-            expect!(rt; report.ends_with(b"\nbalance ok\n"));
-            disk
-        }
-        Err(_) => panic!(rt; "no report"),
-    }
-}
-
-/// Fails the device at one call, opens it again, and goes on from the state that was found to the end of the script. Answers what
-/// failed, which it does once.
-fn go_on(rt: &impl Abort, alloc: Global, script: Script, at: u64, torn: u64) -> Failed {
-    let mut machine = new_machine(rt, alloc, script);
-    let disk = failing(rt, alloc, script, at, torn, After::GoesOn);
-    let (disk, ended) = run(rt, alloc, disk, script, 0, &mut machine);
+) -> Counted {
+    let (disk, ended) = run_new(rt, alloc, script, (at, torn, After::GoesOn), machine);
     let counted = counts_of(&disk);
     expect!(rt; counted.failures == u64::from(counted.calls >= at));
     // after a read the script goes on by itself, but for one of the opening
-    expect!(rt; ended.answered == script.rounds.len() || counted.calls == at);
+    expect!(rt; ended.answered == script.to || counted.calls == at);
     if counted.failures > 0 {
-        go_on_from(rt, alloc, script, disk, ended, &mut machine);
+        go_on_from(rt, alloc, script, disk, ended, machine);
     }
-    counted.failed()
+    counted
 }
 
 /// Opens the device of a run that ended, and goes on to the end of the script.
@@ -306,24 +288,28 @@ fn go_on_from(
     ended: Ended,
     machine: &mut Machine<Payload>,
 ) {
-    let (disk, from) = found_again(rt, alloc, script, disk, ended, machine);
-    let (disk, ended) = run(rt, alloc, disk, script, from, machine);
-    expect!(rt; ended.answered == script.rounds.len() && counts_of(&disk).failures == 1);
-    let stand = expect_crashed(rt, alloc, script, disk, ended, Torn::AsSynced, machine);
-    expect!(rt; stand == script.rounds.len());
+    let (disk, ended) = run(rt, alloc, disk, script, ended, machine);
+    expect!(rt; ended.answered == script.to && counts_of(&disk).failures == 1);
+    let stand = expect_crashed(rt, alloc, script, disk, Torn::AsSynced, ended, machine);
+    expect!(rt; stand == script.to);
 }
 
-/// Opens the device of a run that ended, and expects the numbers of the rounds that stand. Answers how many these are.
-fn found_again(
+/// Crashes the device of a run that ended, expects that an audit reports that its books balance, opens what is left, and expects the state
+/// of the rounds that stand. Answers how many these are.
+fn expect_crashed(
     rt: &impl Abort,
     alloc: Global,
     script: Script,
     disk: Device,
+    kind: Torn,
     ended: Ended,
     machine: &mut Machine<Payload>,
-) -> (Device, usize) {
-    let mut journal = opened(rt, alloc, disk);
-    let from = standing(rt, alloc, journal.position(), script, ended, machine);
-    expect_numbers(rt, alloc, &mut journal, machine);
-    (journal.into_disk(), from)
+) -> usize {
+    let mut report = Vec::new(alloc);
+    let audited = audit(alloc, disk.into_inner().crash(kind), &mut report);
+    expect!(rt; report.ends_with(b"\nbalance ok\n"));
+    let mut journal = opened(rt, alloc, audited.ok().expect(rt, "a report"));
+    let stand = standing(rt, alloc, journal.position(), script, ended, machine);
+    expect_state(rt, alloc, &mut journal, machine);
+    stand
 }

@@ -1,283 +1,269 @@
-//! Scripts that are walked: without a failure, stopped at each call of the device, and with each call failing.
-use crate::cycles::{Cycle, PARTS};
-use crate::device::{FOUR, SMALL, THREE, new_image};
-use crate::script::{Script, Step, in_rounds, take, take_within};
-use crate::stops::{Costs, walk};
+//! Scripts that are walked: without a failure, stopped at each call of the device, and with each
+//! call failing.
+use crate::device::{FOUR, LONG, SMALL, THREE, first_version, new_image};
+use crate::old_device::stored;
+use crate::script::{Round, Script, Step};
+use crate::stops::{Trial, image_after, try_script};
+use Device::{FirstVersion, Left, New, Old};
+use Round::{Held, Mixed, Of};
+use Step::{Fetch, Pick, Release, Take};
+use Trial::{Costs, Head, Stops, Walked};
 use rly_core::Geometry;
 use std::alloc::Global;
 use std::process::Abort;
 
-/// The rounds of a script.
-#[derive(Clone, Copy, PartialEq, Eq)]
-enum Rounds {
-    Commands,
-    Limited,
-    /// 35 mixed steps of 900 bytes, seven in each round.
-    OfSeven,
-    /// 180 mixed steps of 300 bytes, 64 in each round.
-    OfSixtyFour,
-    Held,
+/// A device before a script.
+#[derive(Clone, Copy)]
+pub(crate) enum Device {
+    New(Geometry),
+    /// A new one of three segments, of version 1.
+    FirstVersion,
+    /// One that so many of the rounds were asked of.
+    Left(Geometry, usize),
+    /// The one that the older program wrote, by so many of the rounds.
+    Old(usize),
 }
 
-impl Rounds {
-    fn made(self, rt: &impl Abort, alloc: Global) -> Vec<Vec<Step>> {
-        match self {
-            Rounds::Commands => in_rounds(rt, alloc, &commands(), 1),
-            Rounds::Limited => in_rounds(rt, alloc, &limited(), 1),
-            Rounds::OfSeven => many_mixed(rt, alloc, 35, 900, 7),
-            Rounds::OfSixtyFour => many_mixed(rt, alloc, 180, 300, 64),
-            Rounds::Held => held(rt, alloc),
+/// A device, the rounds of a script, and how it is tried.
+pub(crate) type Walk = (Device, &'static [Round], &'static [Trial]);
+
+/// The script of a device with these bytes.
+fn script_of<'a>(device: Device, rounds: &'static [Round], image: &'a [u8]) -> Script<'a> {
+    let (geometry, from) = match device {
+        New(geometry) => (geometry, 0),
+        FirstVersion => (THREE, 0),
+        Left(geometry, from) => (geometry, from),
+        Old(from) => (THREE, from),
+    };
+    Script {
+        geometry,
+        image,
+        rounds,
+        from,
+        to: rounds.len(),
+    }
+}
+
+/// The bytes of a device.
+fn image_of(rt: &impl Abort, alloc: Global, device: Device, rounds: &'static [Round]) -> Vec<u8> {
+    match device {
+        New(geometry) => new_image(rt, alloc, &geometry),
+        FirstVersion => first_version(rt, alloc),
+        Left(geometry, to) => {
+            let image = new_image(rt, alloc, &geometry);
+            let script = script_of(New(geometry), rounds, &image);
+            image_after(rt, alloc, Script { to, ..script })
+        }
+        Old(_from) => stored(rt, alloc),
+    }
+}
+
+/// Tries each script in its ways.
+pub(crate) fn walk_all(rt: &impl Abort, alloc: Global, walks: &'static [Walk]) {
+    for (device, rounds, trials) in walks {
+        let image = image_of(rt, alloc, *device, rounds);
+        for trial in *trials {
+            try_script(rt, alloc, script_of(*device, rounds, &image), *trial);
         }
     }
 }
 
 /// Commands one by one: three datagrams are taken, CoDel begins to drop, and segments are opened. On two segments these are two,
 /// the first where three datagrams are live, the second where one is in flight and its gate is open from before.
-fn commands() -> [Step; 15] {
-    [
-        take(1, 0, 1_200),
-        take(2, 100, 1_200),
-        take(3, 200, 1_200),
-        Step::Pick { now: 10_000 },
-        Step::Release { number: 1 },
-        take(4, 10_000, 1_200),
-        take(5, 20_000, 400),
-        Step::Pick { now: 120_000 },
-        take(5, 20_000, 400),
-        Step::Pick { now: 130_000 },
-        Step::Release { number: 2 },
-        take(6, 140_000, 1_200),
-        take(8, 140_000, 1),
-        Step::Release { number: 3 },
-        Step::Pick { now: 500_000 },
-    ]
-}
+const COMMANDS: [Round; 15] = [
+    Of(Take(1, 0, 0, 1_200), 1),
+    Of(Take(2, 100, 0, 1_200), 1),
+    Of(Take(3, 200, 0, 1_200), 1),
+    Of(Pick(10_000), 1),
+    Of(Release(1), 1),
+    Of(Take(4, 10_000, 0, 1_200), 1),
+    Of(Take(5, 20_000, 0, 400), 1),
+    Of(Pick(120_000), 1),
+    Of(Take(5, 20_000, 0, 400), 1),
+    Of(Pick(130_000), 1),
+    Of(Release(2), 1),
+    Of(Take(6, 140_000, 0, 1_200), 1),
+    Of(Take(8, 140_000, 0, 1), 1),
+    Of(Release(3), 1),
+    Of(Pick(500_000), 1),
+];
 
 /// Commands one by one, some with limits. The Pick at 120,000 finds one that has expired and drops the next; those at 130,000 and at
 /// 500,000 leave nothing. The heads that are opened have a limit or what has expired.
-fn limited() -> [Step; 15] {
-    [
-        take(1, 0, 1_200),
-        take_within(2, 100, 20_000, 1_200),
-        take(3, 200, 1_200),
-        Step::Pick { now: 10_000 },
-        Step::Release { number: 1 },
-        take(4, 10_000, 1_200),
-        take_within(5, 20_000, 5, 400),
-        Step::Pick { now: 120_000 },
-        Step::Pick { now: 130_000 },
-        take_within(6, 140_000, 1_099_511_627_775, 1_200),
-        take_within(7, 140_000, 1, 1_200),
-        Step::Release { number: 2 },
-        Step::Pick { now: 140_002 },
-        Step::Pick { now: 500_000 },
-        Step::Release { number: 3 },
-    ]
-}
-
-/// Step number `index` of full rounds. Three datagrams of each ten steps are taken, picked and released.
-fn mixed(index: u8, length: usize) -> Step {
-    let first = 3 * u64::from(index / 10);
-    let moment = 1_000 * u64::from(index);
-    match index % 10 {
-        0 => take(first + 1, moment, length),
-        1 => take(first + 2, moment, length),
-        2 | 6 | 8 => Step::Pick { now: moment },
-        3 => Step::Window,
-        4 | 5 => take(first + 3, moment, length),
-        7 => Step::Release { number: first + 2 },
-        _ => take(first + 5, moment, length),
-    }
-}
-
-/// So many of these steps, in rounds of so many.
-fn many_mixed(
-    rt: &impl Abort,
-    alloc: Global,
-    count: u8,
-    length: usize,
-    calls: usize,
-) -> Vec<Vec<Step>> {
-    let mut steps = Vec::new(alloc);
-    for index in 0..count {
-        steps.push(mixed(index, length)).expect(rt, "memory");
-    }
-    in_rounds(rt, alloc, &steps, calls)
-}
-
-/// Steps that each take a datagram of 250 bytes, pick one that was taken seven before, and release one that was taken 14 before: 14 or
-/// more are live once as many were taken, and lie in three segments.
-fn held_step(number: u64, index: u8) -> Step {
-    match index {
-        0 => take(number, 0, 250),
-        1 if number > 7 => Step::Pick { now: 0 },
-        1 => Step::Window,
-        _ if number > 14 => Step::Release {
-            number: number - 14,
-        },
-        _ => Step::Show,
-    }
-}
-
-/// Those of 30 datagrams, of two in each round.
-fn held(rt: &impl Abort, alloc: Global) -> Vec<Vec<Step>> {
-    let mut steps = Vec::new(alloc);
-    for number in 1..=30 {
-        for index in 0..3 {
-            steps.push(held_step(number, index)).expect(rt, "memory");
-        }
-    }
-    in_rounds(rt, alloc, &steps, 6)
-}
-
-/// Adds the rounds of a worked cycle: those that have steps.
-pub(crate) fn add_cycle(rt: &impl Abort, alloc: Global, rounds: &mut Vec<Vec<Step>>, cycle: Cycle) {
-    for part in PARTS {
-        let mut steps = Vec::new(alloc);
-        cycle.add(rt, &mut steps, part);
-        add_round(rt, rounds, steps);
-    }
-}
-
-fn add_round(rt: &impl Abort, rounds: &mut Vec<Vec<Step>>, steps: Vec<Step>) {
-    if !steps.is_empty() {
-        rounds.push(steps).ok().expect(rt, "memory");
-    }
-}
-
-/// The first three of the worked cycles, in eleven rounds.
-pub(crate) fn three_cycles_of(rt: &impl Abort, alloc: Global, length: usize) -> Vec<Vec<Step>> {
-    let mut rounds = Vec::new(alloc);
-    for first in [1, 33, 65] {
-        let cycle = Cycle {
-            first,
-            limit: 0,
-            length,
-        };
-        add_cycle(rt, alloc, &mut rounds, cycle);
-    }
-    expect!(rt; rounds.len() == 11);
-    rounds
-}
-
-/// What they ask of their device. Three segments are opened: before the picks of the second cycle, where nothing is moved, before those of
-/// the third, and before its release, where 32 payloads are. Opening the device makes 8 calls; each of the eight rounds with commands 4;
-/// fetches of all in flight 32, and 64 twice; two of the segments that are opened 5, and the third 6, since its gate is open; and two of
-/// them 32 reads.
-pub(crate) const THREE_CYCLES: Costs = Costs {
-    calls: 280,
-    syncs: 26,
-    generations: &[4, 2, 3],
-};
-
-/// A row of a walk on two or on four segments: its rounds, the calls, the syncs, and the generations.
-type Row = (Rounds, Geometry, u64, u64, &'static [u8]);
-
-/// Of the held rounds six segments are opened, four of them with payloads that are moved: two, and three times four.
-const ROWS: [Row; 9] = [
-    (Rounds::Commands, SMALL, 76, 33, &[3, 2]),
-    (Rounds::Commands, FOUR, 77, 36, &[4, 2, 3, 0]),
-    (Rounds::Limited, SMALL, 83, 37, &[3, 2]),
-    (Rounds::Limited, FOUR, 85, 40, &[4, 2, 3, 0]),
-    (Rounds::OfSeven, SMALL, 43, 17, &[3, 2]),
-    (Rounds::OfSeven, FOUR, 51, 23, &[4, 5, 3, 0]),
-    (Rounds::OfSixtyFour, SMALL, 34, 13, &[3, 2]),
-    (Rounds::OfSixtyFour, FOUR, 32, 13, &[3, 2, 0, 0]),
-    (Rounds::Held, FOUR, 116, 49, &[7, 6, 3, 4]),
+const LIMITED: [Round; 15] = [
+    Of(Take(1, 0, 0, 1_200), 1),
+    Of(Take(2, 100, 20_000, 1_200), 1),
+    Of(Take(3, 200, 0, 1_200), 1),
+    Of(Pick(10_000), 1),
+    Of(Release(1), 1),
+    Of(Take(4, 10_000, 0, 1_200), 1),
+    Of(Take(5, 20_000, 5, 400), 1),
+    Of(Pick(120_000), 1),
+    Of(Pick(130_000), 1),
+    Of(Take(6, 140_000, 1_099_511_627_775, 1_200), 1),
+    Of(Take(7, 140_000, 1, 1_200), 1),
+    Of(Release(2), 1),
+    Of(Pick(140_002), 1),
+    Of(Pick(500_000), 1),
+    Of(Release(3), 1),
 ];
 
-fn rows() -> &'static [Row] {
-    &ROWS
+/// 35 mixed steps of 900 bytes.
+const SEVENS: [Round; 5] = [
+    Mixed(0, 7, 900),
+    Mixed(7, 7, 900),
+    Mixed(14, 7, 900),
+    Mixed(21, 7, 900),
+    Mixed(28, 7, 900),
+];
+
+/// 180 mixed steps of 300 bytes.
+const SIXTY_FOURS: [Round; 3] = [Mixed(0, 64, 300), Mixed(64, 64, 300), Mixed(128, 52, 300)];
+
+/// 30 datagrams.
+const HELD: [Round; 15] = [
+    Held(1),
+    Held(3),
+    Held(5),
+    Held(7),
+    Held(9),
+    Held(11),
+    Held(13),
+    Held(15),
+    Held(17),
+    Held(19),
+    Held(21),
+    Held(23),
+    Held(25),
+    Held(27),
+    Held(29),
+];
+
+/// The first three of the worked cycles, with payloads of so many bytes: 32 datagrams are taken and picked, all in flight are fetched, and
+/// the older 32 are released.
+macro_rules! cycles {
+    ($length:expr) => {
+        [
+            Of(Take(1, 0, 0, $length), 32),
+            Of(Pick(0), 32),
+            Of(Fetch(1), 32),
+            Of(Take(33, 0, 0, $length), 32),
+            Of(Pick(0), 32),
+            Of(Fetch(1), 64),
+            Of(Release(32), 1),
+            Of(Take(65, 0, 0, $length), 32),
+            Of(Pick(0), 32),
+            Of(Fetch(33), 64),
+            Of(Release(64), 1),
+        ]
+    };
 }
+
+const CYCLES: [Round; 11] = cycles!(1_200);
+
+const LONG_CYCLES: [Round; 11] = cycles!(8_192);
+
+const ROUNDS_OF_ONE_CALL: [Walk; 2] = [
+    (New(SMALL), &COMMANDS, &[Walked(76, 33, &[3, 2])]),
+    (New(FOUR), &COMMANDS, &[Walked(77, 36, &[4, 2, 3, 0])]),
+];
 
 #[test]
 fn rounds_of_one_call(rt: HostRuntime) {
-    walk_rows(&rt, rt.alloc(), Rounds::Commands);
+    walk_all(&rt, rt.alloc(), &ROUNDS_OF_ONE_CALL);
 }
+
+const LIMITS: [Walk; 2] = [
+    (New(SMALL), &LIMITED, &[Walked(83, 37, &[3, 2])]),
+    (New(FOUR), &LIMITED, &[Walked(85, 40, &[4, 2, 3, 0])]),
+];
 
 #[test]
 fn limits(rt: HostRuntime) {
-    walk_rows(&rt, rt.alloc(), Rounds::Limited);
+    walk_all(&rt, rt.alloc(), &LIMITS);
 }
+
+const ROUNDS_OF_SEVEN_CALLS: [Walk; 2] = [
+    (New(SMALL), &SEVENS, &[Walked(43, 17, &[3, 2])]),
+    (New(FOUR), &SEVENS, &[Walked(51, 23, &[4, 5, 3, 0])]),
+];
 
 #[test]
 fn rounds_of_seven_calls(rt: HostRuntime) {
-    walk_rows(&rt, rt.alloc(), Rounds::OfSeven);
+    walk_all(&rt, rt.alloc(), &ROUNDS_OF_SEVEN_CALLS);
 }
+
+const ROUNDS_OF_SIXTY_FOUR_CALLS: [Walk; 2] = [
+    (New(SMALL), &SIXTY_FOURS, &[Walked(34, 13, &[3, 2])]),
+    (New(FOUR), &SIXTY_FOURS, &[Walked(32, 13, &[3, 2, 0, 0])]),
+];
 
 #[test]
 fn rounds_of_sixty_four_calls(rt: HostRuntime) {
-    walk_rows(&rt, rt.alloc(), Rounds::OfSixtyFour);
+    walk_all(&rt, rt.alloc(), &ROUNDS_OF_SIXTY_FOUR_CALLS);
 }
+
+/// Six segments are opened, four of them with payloads that are moved: two, and three times four.
+const PAYLOADS_IN_THREE_SEGMENTS: [Walk; 1] = [(
+    New(FOUR),
+    &HELD,
+    &[Walked(116, 49, &[7, 6, 3, 4])],
+)];
 
 #[test]
 fn payloads_in_three_segments(rt: HostRuntime) {
-    walk_rows(&rt, rt.alloc(), Rounds::Held);
+    walk_all(&rt, rt.alloc(), &PAYLOADS_IN_THREE_SEGMENTS);
 }
 
-/// Walks the rows of some rounds.
-fn walk_rows(rt: &impl Abort, alloc: Global, of: Rounds) {
-    for (rounds, geometry, calls, syncs, generations) in rows() {
-        if *rounds == of {
-            let costs = Costs {
-                calls: *calls,
-                syncs: *syncs,
-                generations,
-            };
-            let rounds = of.made(rt, alloc);
-            walk_rounds(
-                rt,
-                alloc,
-                geometry,
-                &new_image(rt, alloc, geometry),
-                &rounds,
-                costs,
-            );
-        }
-    }
-}
-
-/// Walks rounds on a new device with these bytes.
-fn walk_rounds(
-    rt: &impl Abort,
-    alloc: Global,
-    geometry: &Geometry,
-    image: &[u8],
-    rounds: &[Vec<Step>],
-    costs: Costs,
-) {
-    let script = Script {
-        geometry: *geometry,
-        image,
-        before: &[],
-        rounds,
-    };
-    walk(rt, alloc, script, costs);
-}
+/// Three segments are opened: before the picks of the second cycle, where nothing is moved, before those of the third, and before its
+/// release, where 32 payloads are. Opening the device makes 8 calls; each of the eight rounds with commands 4; fetches of all in flight
+/// 32, and 64 twice; two of the segments that are opened 5, and the third 6, since its gate is open; and two of them 32 reads.
+const THREE_CYCLES: [Walk; 1] = [(New(THREE), &CYCLES, &[Walked(280, 26, &[4, 2, 3])])];
 
 #[test]
 fn three_cycles(rt: HostRuntime) {
-    walk_cycles(&rt, rt.alloc(), false);
+    walk_all(&rt, rt.alloc(), &THREE_CYCLES);
 }
 
 /// The same rounds on a device of version 1, whose longest payload has 1,200 bytes.
+const FIRST_VERSION: [Walk; 1] = [(FirstVersion, &CYCLES, &[Walked(280, 26, &[4, 2, 3])])];
+
 #[test]
 fn three_cycles_on_a_device_of_version_1(rt: HostRuntime) {
-    walk_cycles(&rt, rt.alloc(), true);
+    walk_all(&rt, rt.alloc(), &FIRST_VERSION);
 }
 
-fn walk_cycles(rt: &impl Abort, alloc: Global, is_first_version: bool) {
-    let mut image = new_image(rt, alloc, &THREE);
-    if is_first_version {
-        put_first_version(rt, &mut image);
-    }
-    let rounds = three_cycles_of(rt, alloc, 1_200);
-    walk_rounds(rt, alloc, &THREE, &image, &rounds, THREE_CYCLES);
+/// With payloads of 8,192 bytes, on a device that is made for them, they ask of it what those of 1,200 bytes ask of theirs. Takes of 32 of
+/// them write a group of 262,887 bytes, and 32 picks one of 359. So a segment is due before the picks of the second cycle, where 526,226
+/// and 525,768 exceed 789,740, before those of the third, where 265,021 does, and before its release, where 264,100 does. The heads have
+/// 1,757 bytes where each payload is by place, and 263,741 where 32 are inline, 13 of them before the state.
+const LONG_PAYLOADS: [Walk; 1] = [(
+    New(LONG),
+    &LONG_CYCLES,
+    &[
+        Costs(280, 26, &[4, 2, 3]),
+        Head(9, 0, [0xa5, 0, 0, 0, 0, 0, 0, 0, 1, 0x80, 0, 0, 0x50]),
+        Head(9, 1, [0xa5, 0, 0, 0, 0, 0, 0, 0, 2, 0x80, 0, 0x06, 0xd0]),
+        Head(9, 2, [0xa5, 0, 0, 0, 0, 0, 0, 0, 3, 0x80, 0x04, 0x06, 0x30]),
+        Head(
+            11,
+            0,
+            [0xa5, 0, 0, 0, 0, 0, 0, 0, 4, 0x80, 0x04, 0x06, 0x30],
+        ),
+    ],
+)];
+
+#[test]
+fn three_cycles_of_long_payloads(rt: HostRuntime) {
+    walk_all(&rt, rt.alloc(), &LONG_PAYLOADS);
 }
 
-/// Puts a header of version 1 as programs wrote it that knew no longer payloads, and `ff` after its fields.
-fn put_first_version(rt: &impl Abort, image: &mut [u8]) {
-    assert!(rt; image.len() == 355_588);
-    image[10] = 1;
-    image[51..64].fill(0xff);
+/// The picks of their third cycle, for which a segment is opened. Opening the device makes 17 calls: a sync, and reads of the header, of
+/// three generations, of the head in two parts, of three groups in three parts each, and of the gate behind them. The round makes 41: 32
+/// payloads are read, the head is written in 5 and the group in 4.
+const LONG_OPENING: [Walk; 1] = [(Left(LONG, 8), &LONG_CYCLES, &[Stops(9, 18, 58)])];
+
+#[test]
+fn a_stop_at_each_call_of_an_opening(rt: HostRuntime) {
+    walk_all(&rt, rt.alloc(), &LONG_OPENING);
 }
