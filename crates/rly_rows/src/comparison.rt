@@ -1,131 +1,165 @@
 //! The plain machine beside a journal: the same steps, and the same answers.
 use crate::device::DEVICE_E;
-use crate::script::{HOP, PEER, Script, Step, ask_all};
+use crate::script::{HOP, PEER, Step, ask_all, is_fetched};
 use rly_core::Refusal;
 use rly_disk::Disk;
 use rly_journal::Journal;
-use rly_machine::{Answer, Machine, Payload, Reply};
-use std::alloc::{AllocError, Global};
+use rly_machine::{Answer, HopStatus, Machine, Payload, Reply};
+use std::alloc::Global;
 use std::process::Abort;
 
-/// The plain machine that the first rounds of a script were asked of.
-pub(crate) fn machine_after(
-    alloc: Global,
-    script: Script,
-    rounds: usize,
-) -> Result<Machine<Payload>, AllocError> {
-    let mut machine = Machine::new(alloc, DEVICE_E.params)?;
-    make_rounds(alloc, &mut machine, script, rounds)?;
-    Ok(machine)
-}
-
-/// The plain machine makes the first rounds of a script.
-fn make_rounds(
+/// The plain machine's reply to a step, which it makes.
+pub(crate) fn reply_of(
+    rt: &impl Abort,
     alloc: Global,
     machine: &mut Machine<Payload>,
-    script: Script,
-    rounds: usize,
-) -> Result<(), AllocError> {
-    for index in 0..rounds {
-        make_all(alloc, machine, script.round(index))?;
-    }
-    Ok(())
+    step: Step,
+) -> Reply {
+    machine
+        .evaluate(alloc, step.ask(rt, alloc))
+        .expect(rt, "memory")
 }
 
 /// The plain machine makes these steps, whatever it replies.
 pub(crate) fn make_all(
-    alloc: Global,
-    machine: &mut Machine<Payload>,
-    steps: &[Step],
-) -> Result<(), AllocError> {
-    for step in steps {
-        let _ = reply_of(alloc, machine, *step)?;
-    }
-    Ok(())
-}
-
-/// The plain machine's reply to a step, which it makes.
-pub(crate) fn reply_of(
-    alloc: Global,
-    machine: &mut Machine<Payload>,
-    step: Step,
-) -> Result<Reply, AllocError> {
-    machine.evaluate(alloc, step.ask(alloc)?)
-}
-
-/// Makes the steps on the plain machine, and expects each of its replies, at its position, of a journal.
-fn expect_replies(
     rt: &impl Abort,
     alloc: Global,
     machine: &mut Machine<Payload>,
     steps: &[Step],
-    answers: &[Answer],
 ) {
-    expect!(rt; answers.len() == steps.len());
-    for (step, answer) in steps.iter().zip(answers) {
-        expect_reply(rt, alloc, machine, *step, answer);
+    for step in steps {
+        let _ = reply_of(rt, alloc, machine, *step);
     }
 }
 
+/// A new plain machine that has made the steps of these rounds.
+pub(crate) fn machine_of(rt: &impl Abort, alloc: Global, rounds: &[&[Step]]) -> Machine<Payload> {
+    let mut machine = Machine::new(alloc, DEVICE_E.params).expect(rt, "memory");
+    for steps in rounds {
+        make_all(rt, alloc, &mut machine, steps);
+    }
+    machine
+}
+
 /// Makes a step on the plain machine, and expects its reply and its position of an answer.
-fn expect_reply(
+pub(crate) fn expect_answer(
     rt: &impl Abort,
     alloc: Global,
     machine: &mut Machine<Payload>,
     step: Step,
     answer: &Answer,
 ) {
-    let reply = reply_of(alloc, machine, step).expect(rt, "memory");
+    let reply = reply_of(rt, alloc, machine, step);
     let position = machine.seq();
     expect!(rt; is_same(&answer.reply, &reply) && answer.position == position, position);
 }
 
+/// Asks a round of both.
+fn ask_both<D: Disk>(
+    rt: &impl Abort,
+    alloc: Global,
+    journal: &mut Journal<D>,
+    machine: &mut Machine<Payload>,
+    steps: &[Step],
+) {
+    for (step, answer) in steps.iter().zip(&ask_all(rt, alloc, journal, steps)) {
+        expect_answer(rt, alloc, machine, *step, answer);
+    }
+}
+
+/// What a reply tells: its name and its numbers; the ids that it lists, those that expired first, and its bytes; and all numbers of a hop, or
+/// why it was refused.
+type Told<'a> = (
+    (&'static str, u64, u64),
+    (&'a [u64], &'a [u64], &'a [u8]),
+    Option<Result<HopStatus, Refusal>>,
+);
+
+fn told(reply: &Reply) -> Told<'_> {
+    match reply {
+        Reply::Taken(id) => (("taken", *id, 0), (&[], &[], &[]), None),
+        Reply::Already(last) => (("already", *last, 0), (&[], &[], &[]), None),
+        Reply::Picked {
+            number,
+            id,
+            expired,
+            dropped,
+        } => (
+            ("picked", *number, *id),
+            (expired.as_slice(), dropped.as_slice(), &[]),
+            None,
+        ),
+        Reply::Nothing { expired } => (("nothing", 0, 0), (expired.as_slice(), &[], &[]), None),
+        Reply::Released(count) => (("released", *count, 0), (&[], &[], &[]), None),
+        Reply::Unchanged => (("unchanged", 0, 0), (&[], &[], &[]), None),
+        Reply::Bytes { payload, limit } => {
+            (("bytes", *limit, 0), (&[], &[], payload.as_slice()), None)
+        }
+        Reply::WindowIs { first, next } => (("window", *first, *next), (&[], &[], &[]), None),
+        Reply::Shown(status) => (("shown", 0, 0), (&[], &[], &[]), Some(Ok(*status))),
+        Reply::Refused(refusal) => (("refused", 0, 0), (&[], &[], &[]), Some(Err(*refusal))),
+    }
+}
+
 /// Whether two replies are the same.
 pub(crate) fn is_same(one: &Reply, other: &Reply) -> bool {
-    match (one, other) {
-        (Reply::Taken(a), Reply::Taken(b)) => a == b,
-        (Reply::Already(a), Reply::Already(b)) => a == b,
-        (
-            Reply::Picked {
-                number,
-                id,
-                expired,
-                dropped,
-            },
-            Reply::Picked {
-                number: other_number,
-                id: other_id,
-                expired: other_expired,
-                dropped: other_dropped,
-            },
-        ) => {
-            number == other_number
-                && id == other_id
-                && expired.as_slice() == other_expired.as_slice()
-                && dropped.as_slice() == other_dropped.as_slice()
-        }
-        (Reply::Nothing { expired: a }, Reply::Nothing { expired: b }) => {
-            a.as_slice() == b.as_slice()
-        }
-        (Reply::Released(a), Reply::Released(b)) => a == b,
-        (Reply::Unchanged, Reply::Unchanged) => true,
-        (
-            Reply::Bytes { payload, limit },
-            Reply::Bytes {
-                payload: other_payload,
-                limit: other_limit,
-            },
-        ) => payload.as_slice() == other_payload.as_slice() && limit == other_limit,
-        (
-            Reply::WindowIs { first, next },
-            Reply::WindowIs {
-                first: other_first,
-                next: other_next,
-            },
-        ) => first == other_first && next == other_next,
-        (Reply::Shown(a), Reply::Shown(b)) => a == b,
-        (Reply::Refused(a), Reply::Refused(b)) => a == b,
-        _ => false,
+    told(one) == told(other)
+}
+
+/// The custody numbers that a machine has in flight: the first, and the one after the last.
+fn window_of(rt: &impl Abort, machine: &Machine<Payload>) -> (u64, u64) {
+    match machine.ask_window(HOP) {
+        Reply::WindowIs { first, next } => (first, next),
+        _ => panic!(rt; "no window"),
+    }
+}
+
+/// The payload that a machine has under a number.
+fn payload_of(machine: &Machine<Payload>, number: u64) -> Result<&[u8], Refusal> {
+    match machine.item(HOP, number) {
+        Ok(item) => Ok(item.payload.as_slice()),
+        Err(refusal) => Err(refusal),
+    }
+}
+
+/// A position, the last number of the peer, and what a Show tells.
+type Numbers = (
+    u64,
+    Result<u64, Refusal>,
+    Option<Result<HopStatus, Refusal>>,
+);
+
+/// Those of a journal.
+fn numbers<D: Disk>(journal: &Journal<D>) -> Numbers {
+    let (_, _, shown) = told(&journal.ask_show(HOP));
+    (journal.position(), journal.last(PEER), shown)
+}
+
+/// Those of a machine.
+pub(crate) fn numbers_of(machine: &Machine<Payload>) -> Numbers {
+    let last = machine.lasts().first().copied().ok_or(Refusal::NoSuchPeer);
+    let (_, _, shown) = told(&machine.ask_show(HOP));
+    (machine.seq(), last, shown)
+}
+
+/// Expects of a journal a machine's numbers and payloads in flight.
+pub(crate) fn expect_numbers<D: Disk>(
+    rt: &impl Abort,
+    alloc: Global,
+    journal: &mut Journal<D>,
+    machine: &mut Machine<Payload>,
+) {
+    expect!(rt; numbers(journal) == numbers_of(machine));
+    let (first, next) = window_of(rt, machine);
+    let steps = [
+        Step::Show,
+        Step::Window,
+        Step::Fetch(first),
+        Step::Fetch(next),
+    ];
+    ask_both(rt, alloc, journal, machine, &steps);
+    for number in 0..=next {
+        expect!(rt; is_fetched(alloc, journal, number, payload_of(machine, number)), number);
     }
 }
 
@@ -142,95 +176,30 @@ pub(crate) fn expect_state<D: Disk>(
         if machine.item_count() == 0 {
             return;
         }
-        expect_turn(rt, alloc, journal, machine, turn);
+        let (first, _) = window_of(rt, machine);
+        let pick = Step::Pick(1_000_000 + 60_000 * turn);
+        let steps = [
+            pick,
+            Step::Show,
+            Step::Fetch(first),
+            Step::Release(first),
+            Step::Show,
+        ];
+        ask_both(rt, alloc, journal, machine, &steps);
     }
     panic!(rt; "something is always left")
 }
 
-/// The numbers in flight of a machine: the first, and the one after the last.
-fn window_of(rt: &impl Abort, machine: &Machine<Payload>) -> (u64, u64) {
-    match machine.ask_window(HOP) {
-        Reply::WindowIs { first, next } => (first, next),
-        _ => panic!(rt; "no window"),
-    }
+/// Whether an answer is a refusal, at a position.
+pub(crate) fn is_refused(answer: &Answer, refusal: Refusal, position: u64) -> bool {
+    is_same(&answer.reply, &Reply::Refused(refusal)) && answer.position == position
 }
 
-/// Asks a round of both.
-fn expect_round<D: Disk>(
-    rt: &impl Abort,
-    alloc: Global,
-    journal: &mut Journal<D>,
-    machine: &mut Machine<Payload>,
-    steps: &[Step],
-) {
-    let answers = ask_all(rt, alloc, journal, steps);
-    expect_replies(rt, alloc, machine, steps, &answers);
-}
-
-/// Picks, fetches and releases one datagram of both.
-fn expect_turn<D: Disk>(
-    rt: &impl Abort,
-    alloc: Global,
-    journal: &mut Journal<D>,
-    machine: &mut Machine<Payload>,
-    turn: u64,
-) {
-    let (first, _) = window_of(rt, machine);
-    let steps = [
-        Step::Pick {
-            now: 1_000_000 + 60_000 * turn.min(40),
-        },
-        Step::Show,
-        Step::Fetch { number: first },
-        Step::Release { number: first },
-        Step::Show,
-    ];
-    expect_round(rt, alloc, journal, machine, &steps);
-}
-
-/// Expects of a journal a machine's numbers and payloads in flight.
-fn expect_numbers<D: Disk>(
-    rt: &impl Abort,
-    alloc: Global,
-    journal: &mut Journal<D>,
-    machine: &mut Machine<Payload>,
-) {
-    expect!(rt; journal.position() == machine.seq());
-    expect!(rt; journal.last(PEER).ok().as_ref() == machine.lasts().first());
-    expect!(rt; is_same(&journal.ask_show(HOP), &machine.ask_show(HOP)));
-    let (first, next) = window_of(rt, machine);
-    let steps = [
-        Step::Show,
-        Step::Window,
-        Step::Fetch { number: first },
-        Step::Fetch { number: next },
-    ];
-    expect_round(rt, alloc, journal, machine, &steps);
-    for number in 0..=next {
-        expect!(rt; is_fetched(alloc, journal, machine, number), number);
-    }
-}
-
-/// Whether a journal gives the payload in flight that a machine has under a number, or refuses it for the same reason.
-fn is_fetched<D: Disk>(
-    alloc: Global,
-    journal: &mut Journal<D>,
-    machine: &Machine<Payload>,
-    number: u64,
-) -> bool {
-    match (journal.fetch(alloc, HOP, number), machine.item(HOP, number)) {
-        (Ok(bytes), Ok(item)) => bytes.as_slice() == item.payload.as_slice(),
-        (Err(refusal), Err(other)) => refusal == other,
-        _ => false,
-    }
-}
-
-/// Expects one refusal of all, at one position.
-pub(crate) fn expect_refused(rt: &impl Abort, answers: &[Answer], refusal: Refusal, position: u64) {
-    for answer in answers {
-        expect!(rt; is_same(&answer.reply, &Reply::Refused(refusal)));
-        expect!(rt; answer.position == position);
-    }
+/// Whether all are.
+pub(crate) fn are_refused(answers: &[Answer], refusal: Refusal, position: u64) -> bool {
+    answers
+        .iter()
+        .all(|answer| is_refused(answer, refusal, position))
 }
 
 /// Expects of a journal that it is broken: every call is refused, at the position before the round in which it broke.
@@ -242,20 +211,8 @@ pub(crate) fn expect_broken<D: Disk>(
     position: u64,
 ) {
     let answers = ask_all(rt, alloc, journal, steps);
-    expect_refused(rt, &answers, Refusal::Broken, position);
-    expect_all_refused(rt, alloc, journal, position);
-}
-
-/// Every call but a round is refused.
-fn expect_all_refused<D: Disk>(
-    rt: &impl Abort,
-    alloc: Global,
-    journal: &mut Journal<D>,
-    position: u64,
-) {
-    expect!(rt; journal.is_broken());
-    expect!(rt; journal.position() == position);
-    expect!(rt; journal.last(PEER) == Err(Refusal::Broken));
-    expect!(rt; journal.fetch(alloc, HOP, 1).err() == Some(Refusal::Broken));
-    expect!(rt; is_same(&journal.ask_show(HOP), &Reply::Refused(Refusal::Broken)));
+    expect!(rt; are_refused(&answers, Refusal::Broken, position));
+    let broken = Refusal::Broken;
+    expect!(rt; numbers(journal) == (position, Err(broken), Some(Err(broken))));
+    expect!(rt; is_fetched(alloc, journal, 1, Err(broken)));
 }

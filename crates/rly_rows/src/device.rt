@@ -1,10 +1,9 @@
 //! Device E, a small device of two segments, and its bytes.
-use crate::script::Step;
 use rly_core::{Geometry, Params};
 use rly_disk::{Disk, MemDisk};
 use rly_journal::Journal;
 use rly_segment::format;
-use std::alloc::{AllocError, Global};
+use std::alloc::Global;
 use std::process::Abort;
 
 /// One hop, one peer, a window of 8, 16 items and 4,096 bytes, on two segments of the least length.
@@ -27,30 +26,22 @@ pub(crate) const DEVICE_E: Geometry = Geometry {
 /// How many bytes it has.
 pub(crate) const SIZE: usize = 165_880;
 
-/// The place of its second segment's gate.
-pub(crate) const SECOND_GATE: usize = 82_972;
+/// As many zeroed bytes.
+pub(crate) fn zeroed(rt: &impl Abort, alloc: Global) -> MemDisk {
+    MemDisk::new(alloc, vec![in alloc; 0u8; SIZE].expect(rt, "memory"))
+}
 
-/// Device E as it was formatted, on zeroed bytes.
+/// Formats a disk as device E.
+pub(crate) fn expect_format<D: Disk>(rt: &impl Abort, alloc: Global, disk: &mut D) {
+    expect!(rt; format(alloc, disk, &DEVICE_E) == Ok(()));
+}
+
+/// Device E as it was formatted, on zeroed bytes. The disk has written nothing, so that each of its lists has yet to grow.
 pub(crate) fn device_e(rt: &impl Abort, alloc: Global) -> MemDisk {
-    let mut disk = MemDisk::new(alloc, vec![in alloc; 0u8; SIZE].expect(rt, "memory"));
-    expect!(rt; format(alloc, &mut disk, &DEVICE_E) == Ok(()));
-    disk
+    let mut disk = zeroed(rt, alloc);
+    expect_format(rt, alloc, &mut disk);
+    MemDisk::new(alloc, bytes_of(rt, alloc, &mut disk))
 }
-
-/// Its bytes.
-pub(crate) fn formatted(rt: &impl Abort, alloc: Global) -> Vec<u8> {
-    let mut disk = device_e(rt, alloc);
-    bytes_of(rt, alloc, &mut disk).expect(rt, "memory")
-}
-
-/// The line `take 1 1 1 0 41`.
-pub(crate) const FIRST_TAKE: Step = Step::Take {
-    number: 1,
-    stamp: 0,
-    limit: 0,
-    byte: 0x41,
-    length: 1,
-};
 
 /// The journal of a device that opens.
 pub(crate) fn opened<D: Disk>(rt: &impl Abort, alloc: Global, disk: D) -> Journal<D> {
@@ -60,18 +51,14 @@ pub(crate) fn opened<D: Disk>(rt: &impl Abort, alloc: Global, disk: D) -> Journa
     }
 }
 
+/// All bytes that a disk reads.
+pub(crate) fn bytes_of<D: Disk>(rt: &impl Abort, alloc: Global, disk: &mut D) -> Vec<u8> {
+    let mut bytes = vec![in alloc; 0u8; disk.size() as usize].expect(rt, "memory");
+    expect!(rt; disk.read_at(0, &mut bytes).is_ok());
+    bytes
+}
+
 /// Whether all of these are one byte.
 pub(crate) fn are(bytes: &[u8], byte: u8) -> bool {
     bytes.iter().all(|each| *each == byte)
-}
-
-/// All bytes that a disk reads.
-pub(crate) fn bytes_of<D: Disk>(
-    rt: &impl Abort,
-    alloc: Global,
-    disk: &mut D,
-) -> Result<Vec<u8>, AllocError> {
-    let mut bytes = vec![in alloc; 0u8; disk.size() as usize]?;
-    expect!(rt; disk.read_at(0, &mut bytes).is_ok());
-    Ok(bytes)
 }

@@ -2,11 +2,11 @@
 //! journal in scarce memory.
 //!
 //! A contract says what one call does. These tests say of several crates together what a person
-//! wrote down (docs/FORMATS.md, docs/DEFINITIONS.md): the calls of a format, a round and an opening;
-//! and the state of the plain machine after a failed sync or a refused growth, and a crash of each
-//! kind. Devices are in memory, and have two segments. What the program shows of devices in files
-//! stands in `tests/`: their bytes, what opening answers to changed ones, worked rounds, and great
-//! devices. The crate has no code but tests, so no crate may call it.
+//! wrote down (docs/FORMATS.md, docs/DEFINITIONS.md): the calls of a format, a round and an
+//! opening; and the state of the plain machine after a failed sync or a refused growth, and a
+//! crash of each kind. Devices are in memory, and have two segments. What the program shows of
+//! devices in files stands in `tests/`: their bytes, what opening answers to changed ones, worked
+//! rounds, and great devices. The crate has no code but tests, so no crate may call it.
 #![tactic(auto)]
 
 /// As `assert!`, by one call: the prover then sees one way on where `assert!` has two. `assert!` stands where a later call needs
@@ -28,16 +28,10 @@ mod device;
 #[cfg(test)]
 mod expect;
 #[cfg(test)]
-mod far_numbers;
-#[cfg(test)]
-mod faults;
-#[cfg(test)]
 mod growths;
 #[cfg(test)]
-mod refused_memory;
+mod rounds;
 #[cfg(test)]
 mod script;
 #[cfg(test)]
 mod traces;
-#[cfg(test)]
-mod worked_rounds;

@@ -1,9 +1,9 @@
-//! Scripts: what is asked of a spool of one hop and one peer, in rounds.
-use rly_core::{HopId, PeerId};
+//! What is asked of a journal of one hop and one peer.
+use rly_core::{HopId, PeerId, Refusal};
 use rly_disk::Disk;
 use rly_journal::Journal;
 use rly_machine::{Answer, Ask, Call, Command, Payload, Query, SeatId};
-use std::alloc::{AllocError, Global};
+use std::alloc::Global;
 use std::process::Abort;
 
 /// The one hop.
@@ -15,136 +15,147 @@ pub(crate) const PEER: PeerId = PeerId(1);
 /// What is asked at hop 1, of peer 1.
 #[derive(Clone, Copy)]
 pub(crate) enum Step {
-    /// Takes a payload of so many bytes, all the same.
-    Take {
-        number: u64,
-        stamp: u64,
-        /// How long it may wait, 0 for no limit.
-        limit: u64,
-        byte: u8,
-        length: usize,
-    },
-    Pick {
-        now: u64,
-    },
-    Release {
-        number: u64,
-    },
-    Fetch {
-        number: u64,
-    },
+    /// The datagram of this number comes with this stamp and this limit, 0 for none, and so many bytes, each of which is its number.
+    Take(u8, u64, u64, usize),
+    /// A datagram is picked at a moment.
+    Pick(u64),
+    /// All up to this number are released.
+    Release(u64),
+    /// The one under this number is fetched.
+    Fetch(u64),
     Window,
     Show,
 }
 
 impl Step {
     /// What is asked of a spool.
-    pub(crate) fn ask(self, alloc: Global) -> Result<Ask, AllocError> {
-        Ok(match self {
-            Step::Take {
-                number,
-                stamp,
-                limit,
-                byte,
-                length,
-            } => Ask::Command(Command::Take {
+    pub(crate) fn ask(self, rt: &impl Abort, alloc: Global) -> Ask {
+        match self {
+            Step::Take(number, stamp, limit, length) => Ask::Command(Command::Take {
                 peer: PEER,
-                number,
+                number: u64::from(number),
                 hop: HOP,
                 stamp,
                 limit,
-                payload: Payload::new(vec![in alloc; byte; length]?),
+                payload: Payload::new(vec![in alloc; number; length].expect(rt, "memory")),
             }),
-            Step::Pick { now } => Ask::Command(Command::Pick { hop: HOP, now }),
-            Step::Release { number } => Ask::Command(Command::Release { hop: HOP, number }),
-            Step::Fetch { number } => Ask::Query(Query::Fetch { hop: HOP, number }),
+            Step::Pick(now) => Ask::Command(Command::Pick { hop: HOP, now }),
+            Step::Release(number) => Ask::Command(Command::Release { hop: HOP, number }),
+            Step::Fetch(number) => Ask::Query(Query::Fetch { hop: HOP, number }),
             Step::Window => Ask::Query(Query::Window { hop: HOP }),
             Step::Show => Ask::Query(Query::Show { hop: HOP }),
-        })
-    }
-}
-
-/// Takes so many bytes, each the datagram's number, without a limit.
-pub(crate) fn take(number: u8, stamp: u64, length: usize) -> Step {
-    Step::Take {
-        number: u64::from(number),
-        stamp,
-        limit: 0,
-        byte: number,
-        length,
+        }
     }
 }
 
 /// The seat that asks.
 const SEAT: SeatId = SeatId(3);
 
-/// Steps that are asked in rounds of so many each, fewer in the last.
-#[derive(Clone, Copy)]
-pub(crate) struct Script<'a> {
-    pub(crate) steps: &'a [Step],
-    pub(crate) calls: usize,
-}
-
-impl<'a> Script<'a> {
-    /// A round, counted from 0; empty after the last.
-    pub(crate) fn round(&self, index: usize) -> &'a [Step] {
-        let before = index.saturating_mul(self.calls).min(self.steps.len());
-        let (_, rest) = self.steps.split_at(before);
-        let (round, _) = rest.split_at(self.calls.min(rest.len()));
-        round
-    }
-}
-
 /// A call for each step, numbered in their order.
-pub(crate) fn calls_of(alloc: Global, steps: &[Step]) -> Result<Vec<Call>, AllocError> {
-    let mut calls = Vec::with_capacity(alloc, steps.len())?;
+pub(crate) fn calls_of(rt: &impl Abort, alloc: Global, steps: &[Step]) -> Vec<Call> {
+    let mut calls = Vec::new(alloc);
     for (index, step) in steps.iter().enumerate() {
-        calls.push(Call {
+        let call = Call {
             seat: SEAT,
             number: index as u64,
-            ask: step.ask(alloc)?,
-        })?;
+            ask: step.ask(rt, alloc),
+        };
+        calls.push(call).expect(rt, "memory");
     }
-    Ok(calls)
+    calls
 }
 
-/// Asks for a round of 1 to 64 calls.
+/// Asks 1 to 64 calls in a round. The answers come in their order, each under its seat and number. Where memory for them is refused
+/// there are none, and the calls are still there.
 pub(crate) fn round<D: Disk>(
     rt: &impl Abort,
     alloc: Global,
     journal: &mut Journal<D>,
     calls: &mut Vec<Call>,
-    answers: &mut Vec<Answer>,
-) -> Result<(), AllocError> {
-    assert!(rt; 1 <= calls.len() && calls.len() <= 64);
-    journal.round(alloc, calls, answers)
+) -> Vec<Answer> {
+    let mut answers = Vec::new(alloc);
+    let count = calls.len();
+    assert!(rt; 1 <= count && count <= 64);
+    let done = journal.round(alloc, calls, &mut answers).is_ok();
+    let left = if done { (0, count) } else { (count, 0) };
+    expect!(rt; (calls.len(), answers.len()) == left);
+    expect_numbered(rt, &answers);
+    answers
 }
 
-/// Asks all steps in one round. The answers come in the order of the calls, each under its seat and number.
+/// Each answer is under its seat and number.
+fn expect_numbered(rt: &impl Abort, answers: &[Answer]) {
+    for (index, answer) in answers.iter().enumerate() {
+        expect!(rt; answer.seat == SEAT && answer.number == index as u64);
+    }
+}
+
+/// Asks all steps in one round.
 pub(crate) fn ask_all<D: Disk>(
     rt: &impl Abort,
     alloc: Global,
     journal: &mut Journal<D>,
     steps: &[Step],
 ) -> Vec<Answer> {
-    let mut calls = calls_of(alloc, steps).expect(rt, "memory");
-    let mut answers = Vec::new(alloc);
-    round(rt, alloc, journal, &mut calls, &mut answers).expect(rt, "memory");
-    expect!(rt; answers.len() == steps.len() && calls.is_empty());
-    for (index, answer) in answers.iter().enumerate() {
-        expect!(rt; answer.seat == SEAT && answer.number == index as u64);
-    }
+    let answers = round(rt, alloc, journal, &mut calls_of(rt, alloc, steps));
+    expect!(rt; answers.len() == steps.len());
     answers
 }
 
-/// Asks these steps, each in a round of its own.
-pub(crate) fn ask_each<D: Disk>(
+/// Whether a journal gives these bytes of a number in flight, or refuses it so.
+pub(crate) fn is_fetched<D: Disk>(
+    alloc: Global,
+    journal: &mut Journal<D>,
+    number: u64,
+    wanted: Result<&[u8], Refusal>,
+) -> bool {
+    match (journal.fetch(alloc, HOP, number), wanted) {
+        (Ok(found), Ok(bytes)) => found.as_slice() == bytes,
+        (Err(told), Err(refusal)) => told == refusal,
+        _ => false,
+    }
+}
+
+/// What is done with a journal, and what it tells.
+#[derive(Clone, Copy)]
+pub(crate) enum Act<'a> {
+    /// A round, and the position of each answer.
+    Round(&'a [Step], &'a [u64]),
+    /// The datagram under this number is fetched, and has these bytes.
+    Fetches(u64, &'a [u8]),
+    /// A fetch that is refused.
+    Refuses(u64, Refusal),
+}
+
+/// Asks a round, and expects the position of each answer. That of the last is the journal's then.
+fn expect_positions<D: Disk>(
     rt: &impl Abort,
     alloc: Global,
     journal: &mut Journal<D>,
     steps: &[Step],
+    positions: &[u64],
 ) {
-    for step in steps {
-        let _ = ask_all(rt, alloc, journal, &[*step]);
+    let answers = ask_all(rt, alloc, journal, steps);
+    expect_at(rt, &answers, positions);
+    expect!(rt; positions.last().copied() == Some(journal.position()));
+}
+
+fn expect_at(rt: &impl Abort, answers: &[Answer], positions: &[u64]) {
+    expect!(rt; answers.len() == positions.len());
+    for (answer, position) in answers.iter().zip(positions) {
+        expect!(rt; answer.position == *position, *position);
+    }
+}
+
+/// Does this with a journal.
+pub(crate) fn make<D: Disk>(rt: &impl Abort, alloc: Global, journal: &mut Journal<D>, act: Act) {
+    match act {
+        Act::Round(steps, positions) => expect_positions(rt, alloc, journal, steps, positions),
+        Act::Fetches(number, bytes) => {
+            expect!(rt; is_fetched(alloc, journal, number, Ok(bytes)), number)
+        }
+        Act::Refuses(number, refusal) => {
+            expect!(rt; is_fetched(alloc, journal, number, Err(refusal)), number)
+        }
     }
 }

@@ -1,77 +1,58 @@
-//! What a format, a round and an opening ask of the device, call by call, as docs/ARCHITECTURE.md shows them.
-use crate::device::{DEVICE_E, FIRST_TAKE, SECOND_GATE, SIZE, device_e, opened};
-use crate::script::{HOP, Step, ask_all, ask_each, take};
-use rly_disk::{After, Disk, DiskCall, FaultDisk, MemDisk, ToldCall, Watched};
-use rly_journal::Journal;
-use rly_segment::format;
+//! What a format, a round and an opening ask of the device, call by call, as docs/ARCHITECTURE.md
+//! shows them.
+use crate::device::{expect_format, opened, zeroed};
+use crate::expect::expect;
+use crate::script::{Act, Step, make};
+use rly_core::Refusal;
+use rly_disk::{After, DiskCall, FaultDisk, MemDisk, ToldCall, Watched};
 use std::alloc::Global;
 use std::process::Abort;
 
-/// The most calls that a row has.
-const MOST: usize = 100;
+/// The place of the second segment's gate.
+const SECOND_GATE: u64 = 82_972;
 
-/// A call of a device that doesn't fail, with its place and its count.
+/// A call of a device, with its place and its count.
 #[derive(Clone, Copy)]
 enum Made {
     Read(u64, u64),
     Write(u64, u64),
     Sync,
+    FailedSync,
 }
 
 impl Made {
     fn told(self) -> ToldCall {
-        let call = match self {
-            Made::Read(place, count) => DiskCall::Read { place, count },
-            Made::Write(place, count) => DiskCall::Write { place, count },
-            Made::Sync => DiskCall::Sync,
+        let (call, failed) = match self {
+            Made::Read(place, count) => (DiskCall::Read { place, count }, false),
+            Made::Write(place, count) => (DiskCall::Write { place, count }, false),
+            Made::Sync => (DiskCall::Sync, false),
+            Made::FailedSync => (DiskCall::Sync, true),
         };
-        ToldCall {
-            call,
-            failed: false,
-        }
+        ToldCall { call, failed }
     }
 }
 
-/// A disk told exactly these calls, after so many.
-fn expect_told<D: Disk>(rt: &impl Abort, disk: &Watched<D>, before: usize, want: &[Made]) {
-    let told = disk.told();
-    expect!(rt; told.len() == before.saturating_add(want.len()));
-    for (call, made) in told.iter().skip(before).zip(want) {
-        expect!(rt; *call == made.told());
-    }
+/// What is done with a device of zeroes, and the calls that are made of it.
+#[derive(Clone, Copy)]
+struct Row<'a> {
+    shows: &'static str,
+    /// The call that fails, 0 for none.
+    fails: u64,
+    /// It is formatted as device E, and opened for each of these.
+    sessions: &'a [&'a [Act<'a>]],
+    /// How many of the first calls other rows show.
+    skipped: usize,
+    /// All calls after these.
+    calls: &'a [&'a [Made]],
 }
 
-/// A disk whose calls are told.
-fn told<D: Disk>(rt: &impl Abort, alloc: Global, disk: D) -> Watched<D> {
-    Watched::new(disk, Vec::with_capacity(alloc, MOST).expect(rt, "memory"))
-}
-
-/// A device whose calls are told after an opening and these steps, each in a round of its own, and whether one broke the journal.
-fn asked<D: Disk + Drop>(
-    rt: &impl Abort,
-    alloc: Global,
-    disk: D,
-    steps: &[Step],
-    broken: bool,
-) -> Watched<D> {
-    let mut journal = opened(rt, alloc, told(rt, alloc, disk));
-    ask_each(rt, alloc, &mut journal, steps);
-    expect!(rt; journal.is_broken() == broken);
-    journal.into_disk()
-}
-
-/// The same of a new device E that doesn't fail.
-fn asked_e(rt: &impl Abort, alloc: Global, steps: &[Step]) -> Watched<MemDisk> {
-    asked(rt, alloc, device_e(rt, alloc), steps, false)
-}
-
-/// The header's gate, which reads closed; the gates of both segments; the first head; the header; and the two gates.
-const FORMATTED: [Made; 14] = [
+/// A format: the header's gate, which reads closed; the gates of both segments; the first head; the header; and the two gates.
+const FORMAT: [Made; 14] = [
     Made::Read(0, 1),
     Made::Sync,
     Made::Write(64, 1),
     Made::Sync,
-    Made::Write(SECOND_GATE as u64, 1),
+    Made::Write(SECOND_GATE, 1),
     Made::Sync,
     Made::Write(65, 93),
     Made::Sync,
@@ -83,118 +64,39 @@ const FORMATTED: [Made; 14] = [
     Made::Sync,
 ];
 
-/// Formats a device of zeroes.
-fn expect_format(rt: &impl Abort, alloc: Global) {
-    let zeroed = MemDisk::new(alloc, vec![in alloc; 0u8; SIZE].expect(rt, "memory"));
-    let mut disk = told(rt, alloc, zeroed);
-    expect!(rt; format(alloc, &mut disk, &DEVICE_E) == Ok(()));
-    expect_told(rt, &disk, 0, &FORMATTED);
-}
-
-#[test]
-fn a_format(rt: HostRuntime) {
-    expect_format(&rt, rt.alloc());
-}
-
-/// An opening of a new device, and a round.
-const OPENED_AND_TAKEN: [Made; 11] = [
-    // The header, both generations, the head and its body, and the closed gate after it.
+/// An opening: the header, both generations, the head and its body.
+const OPENING: [Made; 6] = [
     Made::Sync,
     Made::Read(0, 53),
     Made::Read(64, 9),
-    Made::Read(SECOND_GATE as u64, 9),
+    Made::Read(SECOND_GATE, 9),
     Made::Read(65, 12),
     Made::Read(77, 80),
-    Made::Read(157, 1),
-    // The frame after the gate, and then the gate.
-    Made::Write(158, 31),
-    Made::Sync,
-    Made::Write(157, 1),
-    Made::Sync,
 ];
 
-/// An opening after that.
-const OPENED: [Made; 10] = [
-    Made::Sync,
-    Made::Read(0, 53),
-    Made::Read(64, 9),
-    Made::Read(SECOND_GATE as u64, 9),
-    Made::Read(65, 12),
-    Made::Read(77, 80),
-    // The group's gate, its length and its body, and the closed gate after it.
+/// The closed gate after the head of a new device.
+const NEW: [Made; 1] = [Made::Read(157, 1)];
+
+/// The gate of a group, its length and its body, and the closed gate after it.
+const GROUP: [Made; 4] = [
     Made::Read(157, 1),
     Made::Read(158, 4),
     Made::Read(162, 26),
     Made::Read(188, 1),
 ];
 
-/// Opens a new device for a round.
-fn taken(rt: &impl Abort, alloc: Global) -> MemDisk {
-    let disk = asked_e(rt, alloc, &[FIRST_TAKE]);
-    expect_told(rt, &disk, 0, &OPENED_AND_TAKEN);
-    disk.into_inner()
-}
-
-/// And opens it again.
-fn expect_openings(rt: &impl Abort, alloc: Global) {
-    let disk = asked(rt, alloc, taken(rt, alloc), &[], false);
-    expect_told(rt, &disk, 0, &OPENED);
-}
-
-#[test]
-fn a_round_and_an_opening(rt: HostRuntime) {
-    expect_openings(&rt, rt.alloc());
-}
-
-/// A device that fails at the first sync of a round, after it. The opening makes 7 calls.
-fn failed(rt: &impl Abort, alloc: Global) -> Watched<FaultDisk<MemDisk>> {
-    let failing = FaultDisk::new(device_e(rt, alloc), 9, 0, After::GoesOn);
-    asked(rt, alloc, failing, &[FIRST_TAKE], true)
-}
-
-/// The round writes, and then its sync fails.
-fn expect_failed(rt: &impl Abort, alloc: Global) {
-    let disk = failed(rt, alloc);
-    let last = ToldCall {
-        call: DiskCall::Sync,
-        failed: true,
-    };
-    expect!(rt; disk.told().len() == 9);
-    let want = [Made::Write(158, 31).told(), last];
-    expect!(rt; disk.told().iter().skip(7).eq(want.iter()));
-}
-
-#[test]
-fn a_round_whose_first_sync_fails(rt: HostRuntime) {
-    expect_failed(&rt, rt.alloc());
-}
-
-/// Takes, picks, fetches and releases in one round: of a datagram of three bytes, and of one without any.
-const FETCHING: [Step; 9] = [
-    Step::Take {
-        number: 1,
-        stamp: 0,
-        limit: 0,
-        byte: 0x41,
-        length: 3,
-    },
-    Step::Take {
-        number: 2,
-        stamp: 0,
-        limit: 0,
-        byte: 0,
-        length: 0,
-    },
-    Step::Pick { now: 0 },
-    Step::Pick { now: 0 },
-    Step::Fetch { number: 1 },
-    Step::Release { number: 1 },
-    Step::Fetch { number: 1 },
-    Step::Fetch { number: 2 },
-    Step::Fetch { number: 3 },
+/// A round of a Take of one byte: the frame after the gate, and then the gate.
+const TAKE: [Made; 4] = [
+    Made::Write(158, 31),
+    Made::Sync,
+    Made::Write(157, 1),
+    Made::Sync,
 ];
 
-/// What two rounds and two fetches ask of the device.
+/// The round writes, and then its sync fails.
+const FAILED: [Made; 2] = [Made::Write(158, 31), Made::FailedSync];
+
+/// What two rounds and a fetch ask of the device.
 const FETCHED: [Made; 10] = [
     Made::Write(158, 89),
     Made::Sync,
@@ -209,67 +111,16 @@ const FETCHED: [Made; 10] = [
     Made::Read(276, 5),
 ];
 
-/// Asks two rounds.
-fn ask_fetching(rt: &impl Abort, alloc: Global, journal: &mut Journal<Watched<MemDisk>>) {
-    let _ = ask_all(rt, alloc, journal, &FETCHING);
-    let _ = ask_all(rt, alloc, journal, &[take(3, 0, 5), Step::Pick { now: 0 }]);
-}
-
-/// Fetches the third datagram, the one without bytes, and the one that was released.
-fn expect_fetched(rt: &impl Abort, alloc: Global, journal: &mut Journal<Watched<MemDisk>>) {
-    let third = journal.fetch(alloc, HOP, 3);
-    expect!(rt; matches!(&third, Ok(bytes) if bytes.as_slice() == [3; 5].as_slice()));
-    let second = journal.fetch(alloc, HOP, 2);
-    expect!(rt; matches!(&second, Ok(bytes) if bytes.is_empty()));
-    expect!(rt; journal.fetch(alloc, HOP, 1).is_err());
-}
-
-/// The device after the rounds and the fetches.
-fn fetched(rt: &impl Abort, alloc: Global) -> Watched<MemDisk> {
-    let mut journal = opened(rt, alloc, told(rt, alloc, device_e(rt, alloc)));
-    ask_fetching(rt, alloc, &mut journal);
-    expect_fetched(rt, alloc, &mut journal);
-    journal.into_disk()
-}
-
-/// What they ask of it.
-fn expect_fetches(rt: &impl Abort, alloc: Global) {
-    let disk = fetched(rt, alloc);
-    // The opening makes 7 calls.
-    expect_told(rt, &disk, 7, &FETCHED);
-}
-
-/// A Fetch of bytes is one read of them, where the group has them, once that is durable; and so where they are released in the same
-/// round. A refused one and one of no bytes are none.
-#[test]
-fn fetches(rt: HostRuntime) {
-    expect_fetches(&rt, rt.alloc());
-}
-
-/// Rounds of a step each. The second segment is opened before the last: the offset 5,067 of the gate and 78,280 exceed 82,908.
-fn steps() -> [Step; 8] {
-    [
-        take(1, 0, 1_200),
-        take(2, 0, 1_200),
-        take(3, 0, 1_200),
-        Step::Pick { now: 0 },
-        Step::Pick { now: 0 },
-        Step::Release { number: 1 },
-        take(4, 0, 1_200),
-        take(5, 7, 0),
-    ]
-}
-
-/// The round in which a segment is opened.
+/// A round in which a segment is opened. The victim's three payloads are read, those in flight and then the one that waits.
 const MOVED: [Made; 12] = [
     Made::Read(1_417, 1_200),
     Made::Read(2_647, 1_200),
     Made::Read(3_931, 1_200),
     // The second segment's gate reads closed. Its head of 3,756 bytes but for the gate, a closed gate after it, and then the gate.
     Made::Sync,
-    Made::Write(SECOND_GATE as u64 + 1, 3_756),
+    Made::Write(SECOND_GATE + 1, 3_756),
     Made::Sync,
-    Made::Write(SECOND_GATE as u64, 1),
+    Made::Write(SECOND_GATE, 1),
     Made::Sync,
     // The group.
     Made::Write(86_729, 30),
@@ -278,14 +129,132 @@ const MOVED: [Made; 12] = [
     Made::Sync,
 ];
 
-/// A segment is opened: the victim's three payloads are read, those in flight and then the one that waits.
-fn expect_moved(rt: &impl Abort, alloc: Global) {
-    let disk = asked_e(rt, alloc, &steps());
-    // The opening makes 7 calls, and seven rounds make four each.
-    expect_told(rt, &disk, 35, &MOVED);
+const FIRST: Step = Step::Take(1, 0, 0, 1);
+
+/// Takes, picks, fetches and releases in one round: of a datagram of three bytes, and of one without any.
+const FETCHING: [Step; 9] = [
+    Step::Take(1, 0, 0, 3),
+    Step::Take(2, 0, 0, 0),
+    Step::Pick(0),
+    Step::Pick(0),
+    Step::Fetch(1),
+    Step::Release(1),
+    Step::Fetch(1),
+    Step::Fetch(2),
+    Step::Fetch(3),
+];
+
+fn rows() -> [Row<'static>; 5] {
+    [
+        Row {
+            shows: "a format, a round and an opening; refused fetches of far numbers make no call",
+            fails: 0,
+            sessions: &[
+                &[
+                    Act::Refuses(0, Refusal::NotInFlight),
+                    Act::Refuses(u64::MAX, Refusal::NeverSent),
+                    Act::Round(&[FIRST], &[1]),
+                ],
+                &[],
+            ],
+            skipped: 0,
+            calls: &[&FORMAT, &OPENING, &NEW, &TAKE, &OPENING, &GROUP],
+        },
+        Row {
+            shows: "a datagram that comes twice in one round is taken once",
+            fails: 0,
+            sessions: &[&[], &[Act::Round(&[FIRST, FIRST], &[1, 1])]],
+            skipped: 14,
+            calls: &[&OPENING, &NEW, &OPENING, &NEW, &TAKE],
+        },
+        Row {
+            shows: "a round whose first sync fails",
+            fails: 14 + 7 + 2,
+            sessions: &[&[Act::Round(&[FIRST], &[0])]],
+            skipped: 14,
+            calls: &[&OPENING, &NEW, &FAILED],
+        },
+        // It is one read where the group has them, once that is durable; and so where they are released in the same round.
+        Row {
+            shows: "a Fetch of bytes is one read of them; a refused one and one of no bytes are none",
+            fails: 0,
+            sessions: &[&[
+                Act::Round(&FETCHING, &[1, 2, 3, 4, 4, 5, 5, 5, 5]),
+                Act::Round(&[Step::Take(3, 0, 0, 5), Step::Pick(0)], &[6, 7]),
+                Act::Fetches(3, &[3; 5]),
+                Act::Fetches(2, &[]),
+                Act::Refuses(1, Refusal::NotInFlight),
+            ]],
+            skipped: 14 + 7,
+            calls: &[&FETCHED],
+        },
+        // The offset 5,067 of the gate and 78,280 exceed 82,908 before the last of these rounds. Those before it make four calls each.
+        Row {
+            shows: "a segment is opened before a round",
+            fails: 0,
+            sessions: &[&[
+                Act::Round(&[Step::Take(1, 0, 0, 1_200)], &[1]),
+                Act::Round(&[Step::Take(2, 0, 0, 1_200)], &[2]),
+                Act::Round(&[Step::Take(3, 0, 0, 1_200)], &[3]),
+                Act::Round(&[Step::Pick(0)], &[4]),
+                Act::Round(&[Step::Pick(0)], &[5]),
+                Act::Round(&[Step::Release(1)], &[6]),
+                Act::Round(&[Step::Take(4, 0, 0, 1_200)], &[7]),
+                Act::Round(&[Step::Take(5, 7, 0, 0)], &[8]),
+            ]],
+            skipped: 14 + 7 + 28,
+            calls: &[&MOVED],
+        },
+    ]
+}
+
+/// A disk whose calls are told.
+type Told = Watched<FaultDisk<MemDisk>>;
+
+/// A new device E, one of whose calls may fail.
+fn formatted(rt: &impl Abort, alloc: Global, fails: u64) -> Told {
+    let disk = FaultDisk::new(zeroed(rt, alloc), fails, 0, After::GoesOn);
+    let mut told = Watched::new(disk, Vec::with_capacity(alloc, 100).expect(rt, "memory"));
+    expect_format(rt, alloc, &mut told);
+    told
+}
+
+/// A device that was opened for these acts, one of which breaks the journal where it fails.
+fn after(rt: &impl Abort, alloc: Global, disk: Told, acts: &[Act], fails: bool) -> Told {
+    let mut journal = opened(rt, alloc, disk);
+    for act in acts {
+        make(rt, alloc, &mut journal, *act);
+    }
+    expect!(rt; journal.is_broken() == fails);
+    journal.into_disk()
+}
+
+/// Expects exactly the calls of a row.
+fn expect_calls(rt: &impl Abort, told: &[ToldCall], row: &Row) {
+    let mut left = told.iter().skip(row.skipped);
+    for part in row.calls {
+        for made in *part {
+            expect(rt, left.next().copied() == Some(made.told()), row.shows);
+        }
+    }
+    expect(rt, left.next().is_none(), row.shows);
+}
+
+fn expect_row(rt: &impl Abort, alloc: Global, row: &Row) {
+    let mut disk = formatted(rt, alloc, row.fails);
+    for acts in row.sessions {
+        disk = after(rt, alloc, disk, acts, row.fails > 0);
+    }
+    expect_calls(rt, disk.told(), row);
+}
+
+fn expect_rows(rt: &impl Abort, alloc: Global) {
+    for row in &rows() {
+        expect_row(rt, alloc, row);
+    }
 }
 
 #[test]
-fn a_round_that_opens_a_segment(rt: HostRuntime) {
-    expect_moved(&rt, rt.alloc());
+fn what_a_device_is_asked(rt: HostRuntime) {
+    expect_rows(&rt, rt.alloc());
 }
