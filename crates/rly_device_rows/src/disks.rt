@@ -25,8 +25,8 @@ fn put<D: Disk>(disk: &mut D, place: u64, bytes: &[u8]) -> Result<(), DiskFault>
 }
 
 // What a read of a disk puts into a buffer, or that it fails.
-fn get<D: Disk>(
-    rt: &impl Abort,
+fn get<R: Abort, D: Disk>(
+    rt: &R,
     disk: &mut D,
     place: u64,
     buffer: &mut [u8],
@@ -36,37 +36,16 @@ fn get<D: Disk>(
 }
 
 // A read at the place gives these bytes.
-fn expect_read<D: Disk>(rt: &impl Abort, alloc: Global, disk: &mut D, place: u64, bytes: &[u8]) {
+pub(crate) fn expect_read<R: Abort, D: Disk>(
+    rt: &R,
+    alloc: Global,
+    disk: &mut D,
+    place: u64,
+    bytes: &[u8],
+) {
     let mut buffer = vec![in alloc; 0; bytes.len()].expect(rt, "memory");
     let outcome = get(rt, disk, place, &mut buffer);
-    let is_read = outcome.is_ok() && buffer.as_slice() == bytes;
-    expect!(rt; is_read, place);
-}
-
-/// What is done to a disk.
-#[derive(Clone, Copy)]
-enum Act {
-    /// Writes these bytes at a place.
-    Put(u64, &'static [u8]),
-    Sync,
-    /// Reads these bytes at a place.
-    Read(u64, &'static [u8]),
-}
-
-/// Does it to a disk none of whose calls fails.
-fn make(rt: &impl Abort, alloc: Global, disk: &mut MemDisk, act: Act) {
-    match act {
-        Act::Put(place, bytes) => put(disk, place, bytes).expect(rt, "no fault"),
-        Act::Sync => disk.sync().expect(rt, "no fault"),
-        Act::Read(place, bytes) => expect_read(rt, alloc, disk, place, bytes),
-    }
-}
-
-/// Does these in turn.
-fn make_all(rt: &impl Abort, alloc: Global, disk: &mut MemDisk, acts: &[Act]) {
-    for each in acts {
-        make(rt, alloc, disk, *each);
-    }
+    expect!(*rt; outcome.is_ok() && buffer.as_slice() == bytes, place);
 }
 
 // The counts: calls, failures, syncs, failed reads.
@@ -79,6 +58,6 @@ fn counts<D: Disk>(disk: &D) -> [u64; 4] {
     ]
 }
 
-fn mem_disk(rt: &impl Abort, alloc: Global, bytes: &[u8]) -> MemDisk {
+pub(crate) fn mem_disk<R: Abort>(rt: &R, alloc: Global, bytes: &[u8]) -> MemDisk {
     MemDisk::new(alloc, bytes.to_vec(alloc).expect(rt, "memory"))
 }

@@ -6,19 +6,40 @@ use std::io;
 use std::io::{Error, ErrorKind, Read, Write};
 use std::process::Abort;
 
+/// Interrupts before each call that is made.
+#[derive(Drop)]
+struct Interrupts {
+    each: u32,
+    left: u32,
+}
+
+impl Interrupts {
+    /// So many.
+    fn new(each: u32) -> Interrupts {
+        Interrupts { each, left: each }
+    }
+
+    /// Fails, if the call is to be interrupted once more.
+    fn next(&mut self) -> io::Result<()> {
+        if self.left == 0 {
+            self.left = self.each;
+            return Ok(());
+        }
+        self.left -= 1;
+        Err(Error::from(ErrorKind::Interrupted))
+    }
+}
+
 /// A reader that gives its bytes one at a time, interrupted before each, and then fails.
 #[derive(Drop)]
 struct Failing<'a> {
     bytes: &'a [u8],
-    interrupted: bool,
+    interrupts: Interrupts,
 }
 
 impl Read for Failing<'_> {
     fn read(&mut self, buffer: &mut [u8]) -> io::Result<usize> {
-        self.interrupted = !self.interrupted;
-        if self.interrupted {
-            return Err(Error::from(ErrorKind::Interrupted));
-        }
+        self.interrupts.next()?;
         let Some((first, rest)) = self.bytes.split_first() else {
             return Err(Error::from(ErrorKind::TimedOut));
         };
@@ -31,24 +52,21 @@ impl Read for Failing<'_> {
     }
 }
 
-/// A writer that takes so many bytes, three at a time and interrupted before each, and then fails.
+/// A writer that takes so many bytes, three at a time and interrupted before each, and then fails or takes none.
 #[derive(Drop)]
 struct Full {
     written: Vec<u8>,
     room: usize,
-    interrupted: bool,
-    fault: ErrorKind,
+    interrupts: Interrupts,
+    fails: bool,
 }
 
 impl Write for Full {
     fn write(&mut self, text: &[u8]) -> io::Result<usize> {
-        self.interrupted = !self.interrupted;
-        if self.interrupted {
-            return Err(Error::from(ErrorKind::Interrupted));
-        }
+        self.interrupts.next()?;
         let count = text.len().min(3).min(self.room);
-        if count == 0 {
-            return Err(Error::from(self.fault));
+        if count == 0 && self.fails {
+            return Err(Error::from(ErrorKind::TimedOut));
         }
         self.written.extend_from_slice(&text[..count])?;
         self.room -= count;
@@ -60,192 +78,129 @@ impl Write for Full {
     }
 }
 
-/// A writer that takes nothing and doesn't fail.
-#[derive(Drop)]
-struct Shut;
-
-impl Write for Shut {
-    fn write(&mut self, _text: &[u8]) -> io::Result<usize> {
-        Ok(0)
-    }
-
-    fn flush(&mut self) -> io::Result<()> {
-        Ok(())
-    }
+/// A reader that has a text gives it at once, to a buffer of so many bytes that has room for it, and then nothing.
+fn expect_text<R: Abort>(rt: &R, alloc: Global, text: &[u8], room: usize) {
+    let mut reader = text;
+    let mut buffer = vec![in alloc; 0u8; room].expect(rt, "memory");
+    expect!(*rt; read_some(&mut reader, &mut buffer) == Ok(text.len()));
+    expect!(*rt; buffer.starts_with(text));
+    expect!(*rt; read_some(&mut reader, &mut buffer) == Ok(0));
 }
 
-/// Reads what there is, and then nothing.
-fn expect_some(rt: &impl Abort) {
-    let mut reader = b"take".as_slice();
-    let mut buffer = [0u8; 8];
-    expect!(rt; read_some(&mut reader, &mut buffer) == Ok(4));
-    expect!(rt; &buffer[..4] == b"take".as_slice());
-    expect!(rt; read_some(&mut reader, &mut buffer) == Ok(0));
+/// So long a text fills a buffer.
+fn expect_filled<R: Abort>(rt: &R, alloc: Global, length: usize) {
+    let text = vec![in alloc; b'a'; length].expect(rt, "memory");
+    expect_text(rt, alloc, &text, length);
 }
 
 #[test]
 fn what_there_is_is_read(rt: HostRuntime) {
-    expect_some(&rt);
-}
-
-/// One byte is read, whatever interrupts it.
-fn expect_byte(rt: &impl Abort, reader: &mut Failing, byte: u8) {
-    let mut buffer = [0u8; 8];
-    expect!(rt; read_some(reader, &mut buffer) == Ok(1));
-    expect!(rt; buffer[0] == byte);
-}
-
-/// Two bytes are read, and then a fault is told.
-fn expect_two_bytes(rt: &impl Abort, reader: &mut Failing) {
-    expect_byte(rt, reader, b'o');
-    expect_byte(rt, reader, b'k');
-    expect!(rt; read_some(reader, &mut [0u8; 8]) == Err(StreamFault::Input));
-}
-
-#[test]
-fn an_interrupted_read_is_made_again(rt: HostRuntime) {
-    let mut reader = Failing {
-        bytes: b"ok",
-        interrupted: false,
-    };
-    expect_two_bytes(&rt, &mut reader);
-}
-
-/// A writer with so much room.
-fn writer(alloc: Global, room: usize) -> Full {
-    Full {
-        written: Vec::new(alloc),
-        room,
-        interrupted: false,
-        fault: ErrorKind::TimedOut,
-    }
-}
-
-/// A text is written whole.
-fn expect_whole(rt: &impl Abort, writer: &mut Full, text: &[u8]) {
-    expect!(rt; write_whole(writer, text) == Ok(()));
-}
-
-/// Three are, one of them empty.
-fn expect_all(rt: &impl Abort, writer: &mut Full) {
-    expect_whole(rt, writer, b"hop 1 taken 6");
-    expect_whole(rt, writer, b"");
-    expect_whole(rt, writer, b" end");
-    expect!(rt; writer.written.as_slice() == b"hop 1 taken 6 end".as_slice());
-}
-
-#[test]
-fn all_is_written(rt: HostRuntime) {
-    expect_all(&rt, &mut writer(rt.alloc(), 20));
-}
-
-/// A stream that is interrupted so many times, and then gives or takes all.
-#[derive(Drop)]
-struct Interrupted {
-    left: u32,
-}
-
-impl Interrupted {
-    /// Fails, if it is to be interrupted once more.
-    fn interrupt(&mut self) -> io::Result<()> {
-        if self.left == 0 {
-            return Ok(());
-        }
-        self.left -= 1;
-        Err(Error::from(ErrorKind::Interrupted))
-    }
-}
-
-impl Read for Interrupted {
-    fn read(&mut self, buffer: &mut [u8]) -> io::Result<usize> {
-        self.interrupt()?;
-        Ok(buffer.len())
-    }
-}
-
-impl Write for Interrupted {
-    fn write(&mut self, text: &[u8]) -> io::Result<usize> {
-        self.interrupt()?;
-        Ok(text.len())
-    }
-
-    fn flush(&mut self) -> io::Result<()> {
-        Ok(())
-    }
-}
-
-/// A read and a write that are interrupted 100,000 times.
-fn expect_again(rt: &impl Abort) {
-    let mut stream = Interrupted { left: 100_000 };
-    expect!(rt; read_some(&mut stream, &mut [0u8; 8]) == Ok(8));
-    stream.left = 100_000;
-    expect!(rt; write_whole(&mut stream, b"ok") == Ok(()));
-}
-
-#[test]
-fn a_call_is_made_again_as_often_as_it_is_interrupted(rt: HostRuntime) {
-    expect_again(&rt);
-}
-
-/// A buffer of so many bytes is filled by one read.
-fn expect_filled(rt: &impl Abort, alloc: Global, length: usize) {
-    let mut buffer = vec![in alloc; 0u8; length].expect(rt, "memory");
-    let mut reader = Interrupted { left: 0 };
-    expect!(rt; read_some(&mut reader, &mut buffer) == Ok(length));
-}
-
-#[test]
-fn a_buffer_of_any_length_is_filled(rt: HostRuntime) {
+    expect_text(&rt, rt.alloc(), b"take", 8);
     for length in [0, 1, 70_000, 1_100_000] {
         expect_filled(&rt, rt.alloc(), length);
     }
 }
 
+/// The one byte that a read gives, whatever interrupts it.
+fn byte_of<R: Abort>(rt: &R, reader: &mut Failing) -> Result<u8, StreamFault> {
+    let mut buffer = [0u8; 8];
+    let count = read_some(reader, &mut buffer)?;
+    expect!(*rt; count == 1);
+    Ok(buffer[0])
+}
+
+/// Two bytes are read, and then a fault is told.
+fn expect_two_bytes<R: Abort>(rt: &R, reader: &mut Failing) {
+    expect!(*rt; byte_of(rt, reader) == Ok(b'o'));
+    expect!(*rt; byte_of(rt, reader) == Ok(b'k'));
+    expect!(*rt; byte_of(rt, reader) == Err(StreamFault::Input));
+}
+
+/// So often each call may be interrupted.
+const OFTEN: [u32; 3] = [0, 1, 100_000];
+
+#[test]
+fn an_interrupted_read_is_made_again(rt: HostRuntime) {
+    for each in OFTEN {
+        let interrupts = Interrupts::new(each);
+        let mut reader = Failing {
+            bytes: b"ok",
+            interrupts,
+        };
+        expect_two_bytes(&rt, &mut reader);
+    }
+}
+
+/// A writer with so much room.
+fn writer(alloc: Global, room: usize, each: u32, fails: bool) -> Full {
+    Full {
+        written: Vec::new(alloc),
+        room,
+        interrupts: Interrupts::new(each),
+        fails,
+    }
+}
+
+/// Three texts are written whole, one of them empty.
+fn expect_all<R: Abort>(rt: &R, writer: &mut Full) {
+    for text in [b"hop 1 taken 6".as_slice(), b"", b" end"] {
+        expect!(*rt; write_whole(writer, text) == Ok(()));
+    }
+    expect!(*rt; writer.written.as_slice() == b"hop 1 taken 6 end".as_slice());
+}
+
+#[test]
+fn all_is_written(rt: HostRuntime) {
+    for each in OFTEN {
+        expect_all(&rt, &mut writer(rt.alloc(), 20, each, true));
+    }
+}
+
 /// So long a text, three bytes at a time.
-fn expect_long(rt: &impl Abort, alloc: Global, writer: &mut Full) {
+fn expect_long<R: Abort>(rt: &R, alloc: Global, writer: &mut Full) {
     let text = vec![in alloc; b'a'; 1_100_000].expect(rt, "memory");
-    expect_whole(rt, writer, &text);
-    expect!(rt; writer.written.len() == 1_100_000);
+    expect!(*rt; write_whole(writer, &text) == Ok(()));
+    expect!(*rt; writer.written.len() == 1_100_000);
 }
 
 #[test]
 fn a_long_text_is_written_whole(rt: HostRuntime) {
-    expect_long(&rt, rt.alloc(), &mut writer(rt.alloc(), 1_100_000));
+    expect_long(&rt, rt.alloc(), &mut writer(rt.alloc(), 1_100_000, 1, true));
 }
 
 /// A writer has as much of a text as it has room for.
-fn expect_beginning(rt: &impl Abort, writer: &mut Full, text: &[u8]) {
+fn expect_beginning<R: Abort>(rt: &R, writer: &mut Full, text: &[u8]) {
     let room = writer.room;
-    expect!(rt; write_whole(writer, text) == Err(StreamFault::Output));
-    expect!(rt; writer.written.len() == room && text.starts_with(&writer.written));
+    expect!(*rt; write_whole(writer, text) == Err(StreamFault::Output));
+    expect!(*rt; writer.written.len() == room && text.starts_with(&writer.written));
 }
 
-/// Writers with less room than a text wants, and one that takes nothing.
-fn expect_beginnings(rt: &impl Abort, alloc: Global, text: &[u8]) {
-    for room in 0..text.len() {
-        expect_beginning(rt, &mut writer(alloc, room), text);
-    }
-    expect!(rt; write_whole(&mut Shut, text) == Err(StreamFault::Output));
-}
-
+/// Writers with less room than a text wants, which then fail, or take nothing.
 #[test]
 fn a_writer_that_fails_has_a_beginning(rt: HostRuntime) {
-    expect_beginnings(&rt, rt.alloc(), b"hop 1 taken 6");
+    for room in 0..13 {
+        for fails in [true, false] {
+            expect_beginning(
+                &rt,
+                &mut writer(rt.alloc(), room, 1, fails),
+                b"hop 1 taken 6",
+            );
+        }
+    }
 }
 
 /// What a fault shows.
-fn expect_line(rt: &impl Abort, alloc: Global, fault: StreamFault, line: &str) {
+fn expect_line<R: Abort>(rt: &R, alloc: Global, fault: StreamFault, line: &str) {
     let shown = format!(in alloc; "{}", fault).expect(rt, "memory");
-    expect!(rt; shown.as_str() == line);
-}
-
-/// Both.
-fn expect_lines(rt: &impl Abort, alloc: Global) {
-    expect_line(rt, alloc, StreamFault::Input, "rly: input failed");
-    expect_line(rt, alloc, StreamFault::Output, "rly: output failed");
+    expect!(*rt; shown.as_str() == line);
 }
 
 #[test]
 fn faults_have_their_lines(rt: HostRuntime) {
-    expect_lines(&rt, rt.alloc());
+    for (fault, line) in [
+        (StreamFault::Input, "rly: input failed"),
+        (StreamFault::Output, "rly: output failed"),
+    ] {
+        expect_line(&rt, rt.alloc(), fault, line);
+    }
 }

@@ -1,10 +1,42 @@
-//! A disk that is as long as a device may be.
+//! A disk that is as long as a device may be, and what is read of it.
 
-use rly_disk::{Counts, Disk, DiskFault};
+use rly_disk::{After, Counts, Disk, DiskCall, DiskFault, FaultDisk, ToldCall, Watched};
+use std::alloc::Global;
+use std::process::Abort;
+
+/// One that tells its calls, and of which one may fail.
+pub(crate) type ToldDisk = Watched<FaultDisk<FarDisk>>;
+
+/// Such a disk of so many bytes, of which the call of a number fails, or none if that is 0.
+pub(crate) fn disk_of<R: Abort>(rt: &R, alloc: Global, size: u64, fails: u64) -> ToldDisk {
+    let told = Vec::with_capacity(alloc, 256).expect(rt, "memory");
+    let inner = FaultDisk::new(FarDisk::new(size), fails, 0, After::GoesOn);
+    Watched::new(inner, told)
+}
+
+/// What it tells of a read.
+pub(crate) fn read_of(place: u64, count: u64, failed: bool) -> ToldCall {
+    ToldCall {
+        call: DiskCall::Read { place, count },
+        failed,
+    }
+}
+
+/// Whether these bytes are what it reads from a place on, and so many.
+pub(crate) fn are_read(bytes: &[u8], start: u64, length: u16) -> bool {
+    let mut place = start;
+    for byte in bytes {
+        if *byte != place.to_le_bytes()[0] {
+            return false;
+        }
+        place = place.wrapping_add(1);
+    }
+    bytes.len() == usize::from(length)
+}
 
 /// A disk that keeps no bytes: a read gives the low byte of each place, and every write and sync fails. So it may be as long as a
 /// device may be. Of what it reads nothing is proved, so it is never honest.
-#[derive(Debug, Drop)]
+#[derive(Drop)]
 pub(crate) struct FarDisk {
     size: u64,
     counts: Counts,
@@ -80,7 +112,7 @@ impl Disk for FarDisk {
 /// Fills a buffer with the low byte of each place from there on.
 fn fill_low(place: u64, buffer: &mut [u8]) -> Result<(), DiskFault> {
     for (offset, byte) in buffer.iter_mut().enumerate() {
-        *byte = (place.wrapping_add(offset as u64) & 0xff) as u8;
+        *byte = place.wrapping_add(offset as u64).to_le_bytes()[0];
     }
     Ok(())
 }

@@ -2,24 +2,57 @@
 ghost use Rattle.std.specs.Prelude.{◌↔◌, ◌<◌, All, IsTrue};
 ghost use Rattle.rly_fetching.specs.Fetching.{IsThereFor};
 
-use crate::far_disk::FarDisk;
-use rly_checkpoint::{Place, Stored};
+use crate::far_disk::{ToldDisk, are_read, disk_of, read_of};
+use rly_checkpoint::Place;
 use rly_core::Refusal;
-use rly_disk::{After, Disk, DiskCall, FaultDisk, MemDisk, ToldCall, Watched};
-use rly_fetching::{Outcome, answer_all, place_of, read_payload, refuse_all};
+use rly_disk::Disk;
+use rly_fetching::{Outcome, answer_all, read_payload, refuse_all};
 use rly_machine::{Answer, Payload, Reply, SeatId};
-use std::alloc::{AllocError, Global};
+use std::alloc::Global;
 use std::process::Abort;
 
-/// A disk in memory of 256 bytes, each the number of its place, of which the second call fails.
-fn disk_of(alloc: Global) -> Result<Watched<FaultDisk<MemDisk>>, AllocError> {
-    let mut bytes = vec![in alloc; 0u8; 256]?;
-    for (place, byte) in bytes.iter_mut().enumerate() {
-        *byte = (place & 0xff) as u8;
+/// The limit of a payload, where it lies, and how many bytes it has. One without bytes lies nowhere.
+type Wanted = (u64, u64, u16);
+
+/// A call of a round: its seat, number and position, and the payload that it wants. If it wants none, it is answered already: its
+/// datagram was taken, under its number. Last is the number of the refusal, or 0 where it isn't refused.
+pub(crate) type Row = (u16, u64, u64, Option<Wanted>, u8);
+
+/// Where a payload lies, if it has bytes.
+fn place_at(start: u64, length: u16) -> Option<Place> {
+    match length {
+        0 => None,
+        _ => Some(Place { start, length }),
     }
-    let told = Vec::with_capacity(alloc, 8)?;
-    let inner = FaultDisk::new(MemDisk::new(alloc, bytes), 2, 0, After::GoesOn);
-    Ok(Watched::new(inner, told))
+}
+
+/// What came of a call, before payloads are read.
+fn outcome_of((seat, number, position, wanted, _refused): Row) -> Outcome {
+    let seat = SeatId(seat);
+    match wanted {
+        Some((limit, start, length)) => Outcome::Wanted {
+            seat,
+            number,
+            position,
+            limit,
+            place: place_at(start, length),
+        },
+        None => Outcome::Answered(Answer {
+            seat,
+            number,
+            reply: Reply::Taken(number),
+            position,
+        }),
+    }
+}
+
+/// What came of these.
+pub(crate) fn outcomes_of<R: Abort>(rt: &R, alloc: Global, rows: &[Row]) -> Vec<Outcome> {
+    let mut outcomes = Vec::with_capacity(alloc, rows.len()).expect(rt, "memory");
+    for row in rows {
+        outcomes.push(outcome_of(*row)).expect(rt, "memory");
+    }
+    outcomes
 }
 
 /// Whether the place that a call wants, if it wants one, lies on a device of so many bytes.
@@ -42,53 +75,40 @@ pub(crate) fn are_there(outcomes: &[Outcome], size: u64) -> bool
     outcomes.iter().all(|outcome| is_there(outcome, size))
 }
 
-/// So many bytes from there on.
-fn place(start: u64, length: u16) -> Option<Place> {
-    Some(Place { start, length })
-}
-
-/// A Fetch under a number, at a position, of a payload that lies at a place, if it has bytes. Its limit is 1,000 times the number.
-pub(crate) fn wanted(number: u64, position: u64, place: Option<Place>) -> Outcome {
-    Outcome::Wanted {
-        seat: SeatId(7),
-        number,
-        position,
-        limit: number.saturating_mul(1_000),
-        place,
-    }
-}
-
-/// A call that is answered already.
-fn answered(number: u64) -> Outcome {
-    Outcome::Answered(Answer {
-        seat: SeatId(8),
-        number,
-        reply: Reply::Taken(number),
-        position: 50,
-    })
-}
-
-/// What is told of a read.
-fn read_of(place: u64, count: u64, failed: bool) -> ToldCall {
-    ToldCall {
-        call: DiskCall::Read { place, count },
-        failed,
-    }
-}
-
-/// Whether a reply gives these bytes, and the limit of a Fetch under that number.
-pub(crate) fn gives(reply: &Reply, number: u64, bytes: &[u8]) -> bool {
-    match reply {
-        Reply::Bytes { payload, limit } => {
-            payload.as_slice() == bytes && *limit == number.saturating_mul(1_000)
+/// Whether a payload with a limit is the one that a call wants.
+fn is_wanted(payload: &Payload, given: u64, wanted: Option<Wanted>) -> bool {
+    match wanted {
+        Some((limit, start, length)) => {
+            given == limit && are_read(payload.as_slice(), start, length)
         }
-        _ => false,
+        None => false,
     }
 }
 
-/// The answers to these calls.
-fn answers_to<D: Disk>(
-    rt: &impl Abort,
+/// Whether an answer is that of a call.
+fn is_answer(answer: &Answer, (seat, number, position, wanted, refused): Row) -> bool {
+    let is_told = match &answer.reply {
+        Reply::Bytes { payload, limit } => refused == 0 && is_wanted(payload, *limit, wanted),
+        Reply::Taken(id) => refused == 0 && wanted.is_none() && *id == number,
+        Reply::Refused(refusal) => refusal.number() == refused,
+        _ => false,
+    };
+    is_told && answer.seat == SeatId(seat) && answer.number == number && answer.position == position
+}
+
+/// Whether each call has its answer, in their order.
+pub(crate) fn are_answers(answers: &[Answer], rows: &[Row]) -> bool {
+    for (answer, row) in answers.iter().zip(rows) {
+        if !is_answer(answer, *row) {
+            return false;
+        }
+    }
+    answers.len() == rows.len()
+}
+
+/// The answers to calls, once payloads are read.
+fn answers_to<R: Abort, D: Disk>(
+    rt: &R,
     alloc: Global,
     disk: &mut D,
     outcomes: &mut Vec<Outcome>,
@@ -100,30 +120,29 @@ fn answers_to<D: Disk>(
     answers
 }
 
-/// Three reads of five calls.
-fn outcomes_of(alloc: Global) -> Result<Vec<Outcome>, AllocError> {
-    Ok(vec![in alloc;
-        wanted(1, 41, place(10, 3)),
-        answered(2),
-        wanted(3, 43, None),
-        wanted(4, 44, place(20, 2)),
-        wanted(5, 45, place(255, 1)),
-    ]?)
+/// Calls are answered so.
+fn expect_round<R: Abort, D: Disk>(rt: &R, alloc: Global, disk: &mut D, rows: &[Row]) {
+    let mut outcomes = outcomes_of(rt, alloc, rows);
+    expect!(*rt; are_answers(&answers_to(rt, alloc, disk, &mut outcomes), rows));
 }
 
-fn expect_one_failed(rt: &impl Abort, answers: &[Answer]) {
-    let [first, second, third, fourth, fifth] = answers else {
-        panic!(rt; "not five answers");
-    };
-    expect!(*rt; gives(&first.reply, 1, &[10, 11, 12]));
-    expect!(*rt; first.seat == SeatId(7) && first.number == 1 && first.position == 41);
-    expect!(*rt; matches!(second.reply, Reply::Taken(2)) && second.seat == SeatId(8) && second.position == 50);
-    expect!(*rt; gives(&third.reply, 3, &[]));
-    expect!(*rt; matches!(fourth.reply, Reply::Refused(Refusal::DeviceRead)) && fourth.number == 4 && fourth.position == 44);
-    expect!(*rt; gives(&fifth.reply, 5, &[255]));
+/// Three reads of five calls, of which the second one fails.
+const FIVE: [Row; 5] = [
+    (7, 1, 41, Some((1_000, 10, 3)), 0),
+    (8, 2, 50, None, 0),
+    (7, 3, 43, Some((3_000, 0, 0)), 0),
+    (7, 4, 44, Some((4_000, 20, 2)), 13),
+    (7, 5, 45, Some((5_000, 255, 1)), 0),
+];
+
+/// Its call alone is answered 13. A payload without bytes isn't read.
+#[test]
+fn a_failed_read_refuses_its_call_alone(rt: HostRuntime) {
+    expect_one_failed(&rt, rt.alloc(), &mut disk_of(&rt, rt.alloc(), 256, 2));
 }
 
-fn expect_read(rt: &impl Abort, disk: &Watched<FaultDisk<MemDisk>>) {
+fn expect_one_failed<R: Abort>(rt: &R, alloc: Global, disk: &mut ToldDisk) {
+    expect_round(rt, alloc, disk, &FIVE);
     let reads = [
         read_of(10, 3, false),
         read_of(20, 2, true),
@@ -132,58 +151,46 @@ fn expect_read(rt: &impl Abort, disk: &Watched<FaultDisk<MemDisk>>) {
     expect!(*rt; disk.told() == reads.as_slice());
 }
 
-/// The second of three reads fails: its call alone is answered 13. A payload without bytes isn't read.
-#[test]
-fn a_failed_read_refuses_its_call_alone(rt: HostRuntime) {
-    let mut disk = disk_of(rt.alloc()).expect(&rt, "memory");
-    let mut outcomes = outcomes_of(rt.alloc()).expect(&rt, "memory");
-    let answers = answers_to(&rt, rt.alloc(), &mut disk, &mut outcomes);
-    expect_read(&rt, &disk);
-    expect_one_failed(&rt, &answers);
-}
-
-/// Both answers are that the call is unsure.
-fn expect_unsure(rt: &impl Abort, answers: &[Answer]) {
-    let [first, second] = answers else {
-        panic!(rt; "not two answers");
-    };
-    expect!(*rt; matches!(first.reply, Reply::Refused(Refusal::Unsure)) && first.number == 1 && first.position == 30);
-    expect!(*rt; matches!(second.reply, Reply::Refused(Refusal::Unsure)) && second.number == 2 && second.position == 30);
-}
-
-/// Where the round's commands may not be durable, each of its calls is refused and nothing is read.
+/// Where the round's commands may not be durable, each of its calls is refused at one position, and nothing is read.
 #[test]
 fn an_unsure_round_reads_nothing(rt: HostRuntime) {
-    let alloc = rt.alloc();
-    let mut outcomes = vec![in alloc; wanted(1, 20, None), answered(2)].expect(&rt, "memory");
-    let mut answers = Vec::with_capacity(alloc, 2).expect(&rt, "memory");
-    refuse_all(&mut outcomes, &mut answers, Refusal::Unsure, 30);
-    expect_unsure(&rt, &answers);
-    expect!(rt; outcomes.is_empty());
+    let calls = [(7, 1, 20, Some((1_000, 0, 0)), 0), (8, 2, 50, None, 0)];
+    expect_unsure(&rt, rt.alloc(), &mut outcomes_of(&rt, rt.alloc(), &calls));
 }
 
-/// One payload alone.
+fn expect_unsure<R: Abort>(rt: &R, alloc: Global, outcomes: &mut Vec<Outcome>) {
+    let mut answers = Vec::with_capacity(alloc, 2).expect(rt, "memory");
+    assert!(rt; outcomes.len() == 2);
+    refuse_all(outcomes, &mut answers, Refusal::Unsure, 30);
+    let unsure = [(7, 1, 30, None, 12), (8, 2, 30, None, 12)];
+    expect!(*rt; outcomes.is_empty() && are_answers(&answers, &unsure));
+}
+
+/// One payload alone, at place 1, is read, and then not.
 #[test]
 fn a_payload_is_read(rt: HostRuntime) {
-    let mut disk = disk_of(rt.alloc()).expect(&rt, "memory");
-    expect_payload(&rt, rt.alloc(), &mut disk);
+    expect_payload(&rt, rt.alloc(), &mut disk_of(&rt, rt.alloc(), 256, 2));
 }
 
-fn expect_payload(rt: &impl Abort, alloc: Global, disk: &mut Watched<FaultDisk<MemDisk>>) {
-    assert!(rt; disk.size() == 256);
+fn expect_payload<R: Abort>(rt: &R, alloc: Global, disk: &mut ToldDisk) {
+    expect!(*rt; refusal_of(rt, alloc, disk) == 0);
+    expect!(*rt; refusal_of(rt, alloc, disk) == 13);
+}
+
+/// The number of the refusal, or 0 where it is read.
+fn refusal_of<R: Abort, D: Disk>(rt: &R, alloc: Global, disk: &mut D) -> u8 {
     let place = Place {
         start: 1,
         length: 4,
     };
-    let there = place_of(&Stored::Placed(place));
-    assert!(rt; there == Some(place));
-    let found = read_payload(alloc, disk, Some(place));
-    expect!(*rt; matches!(&found, Ok(payload) if payload.as_slice() == [1, 2, 3, 4].as_slice()));
     assert!(rt; disk.size() == 256);
-    let failed = read_payload(alloc, disk, Some(place));
-    expect!(*rt; matches!(failed, Err(Refusal::DeviceRead)));
-    let empty = Stored::Inline(Payload::new(Vec::new(alloc)));
-    expect!(*rt; place_of(&empty).is_none());
+    match read_payload(alloc, disk, Some(place)) {
+        Ok(payload) => {
+            expect!(*rt; are_read(payload.as_slice(), 1, 4));
+            0
+        }
+        Err(refusal) => refusal.number(),
+    }
 }
 
 /// The bytes of the longest device: its header's 64, and 256 segments.
@@ -192,71 +199,28 @@ const LONGEST: u64 = 549_755_813_696;
 /// The bytes of its segments.
 const SEGMENT: u64 = 2_147_483_647;
 
-/// Where the payload lies that a Fetch of a round asks for: at the end of every fourth segment, up to the last one. Every second one
-/// has 8,192 bytes.
-fn far_place(index: u16) -> Place
+/// A Fetch of a payload at the end of every fourth segment, up to the last one. Every second payload has 8,192 bytes.
+fn far_fetch(index: u16) -> Row
     requires { index < 64 }
 {
+    let at = u64::from(index);
     let length = if index % 2 == 0 { 8_192 } else { 19 * index };
-    Place {
-        start: 64 + SEGMENT * (4 * u64::from(index) + 4) - u64::from(length),
-        length,
-    }
+    let start = 64 + SEGMENT * (4 * at + 4) - u64::from(length);
+    let (number, position) = (1 + 8_589_934_592 * at, 1_099_511_627_776 + at);
+    (255 - index, number, position, Some((0, start, length)), 0)
 }
 
-/// The number of that Fetch.
-fn far_number(index: u16) -> u64
-    requires { index < 64 }
-{
-    1 + 8_589_934_592 * u64::from(index)
-}
-
-/// Whether a reply gives the low byte of each place.
-fn gives_low(reply: &Reply, place: Place) -> bool {
-    let Reply::Bytes { payload, .. } = reply else {
-        return false;
-    };
-    let bytes = payload.as_slice();
-    for (offset, byte) in bytes.iter().enumerate() {
-        if u64::from(*byte) != place.start.wrapping_add(offset as u64) & 0xff {
-            return false;
-        }
-    }
-    bytes.len() == usize::from(place.length)
-}
-
-/// 64 Fetches of a round.
-fn far_outcomes(rt: &impl Abort, alloc: Global) -> Vec<Outcome> {
-    let mut outcomes = Vec::with_capacity(alloc, 64).expect(rt, "memory");
-    for index in 0..64u16 {
-        outcomes
-            .push(Outcome::Wanted {
-                seat: SeatId(255 - index),
-                number: far_number(index),
-                position: 1_099_511_627_776 + u64::from(index),
-                limit: 0,
-                place: Some(far_place(index)),
-            })
-            .expect(rt, "memory");
-    }
-    outcomes
-}
-
-fn expect_far(rt: &impl Abort, answers: &[Answer]) {
-    assert!(rt; answers.len() == 64);
-    for index in 0..64u16 {
-        let answer = &answers[usize::from(index)];
-        expect!(*rt; gives_low(&answer.reply, far_place(index)));
-        expect!(*rt; answer.number == far_number(index));
-    }
-}
-
-/// They are of payloads of up to 8,192 bytes all over the longest device, under great numbers and positions.
+/// 64 Fetches of a round, of payloads of up to 8,192 bytes all over the longest device, under great numbers and positions.
 #[test]
 fn payloads_of_a_round_are_read_far_away(rt: HostRuntime) {
-    let mut disk = FarDisk::new(LONGEST);
-    let mut outcomes = far_outcomes(&rt, rt.alloc());
-    let answers = answers_to(&rt, rt.alloc(), &mut disk, &mut outcomes);
-    expect_far(&rt, &answers);
-    expect!(rt; disk.calls() == 64 && disk.failures() == 0);
+    expect_far(&rt, rt.alloc(), &mut disk_of(&rt, rt.alloc(), LONGEST, 0));
+}
+
+fn expect_far<R: Abort>(rt: &R, alloc: Global, disk: &mut ToldDisk) {
+    let mut rows = Vec::with_capacity(alloc, 64).expect(rt, "memory");
+    for index in 0..64u16 {
+        rows.push(far_fetch(index)).expect(rt, "memory");
+    }
+    expect_round(rt, alloc, disk, &rows);
+    expect!(*rt; disk.calls() == 64 && disk.failures() == 0);
 }

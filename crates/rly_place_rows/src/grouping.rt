@@ -1,28 +1,17 @@
 //! A group tells where its payloads will lie.
-ghost use Rattle.std.specs.Prelude.{◌≡◌, ◌+◌, ◌<◌, ◌≤◌, []};
+ghost use Rattle.std.specs.Prelude.{◌≡◌, ◌+◌, ◌<◌, ◌≤◌, [], length};
 
-use rly_checkpoint::{Place, Stored};
-use rly_core::limits::MAX_PAYLOAD;
+use rly_checkpoint::Stored;
 use rly_core::{HopId, PeerId};
 use rly_disk::{Disk, MemDisk};
+use rly_fetching::place_of;
 use rly_grouping::{Group, is_recordable};
 use rly_machine::{Command, Payload};
 use std::alloc::Global;
 use std::process::Abort;
 
-/// A Take of some bytes, with that limit.
-fn take_of(rt: &impl Abort, alloc: Global, limit: u64, bytes: &[u8]) -> Command<Payload> {
-    take_from(rt, alloc, 1, limit, bytes)
-}
-
-/// The same of a peer.
-fn take_from(
-    rt: &impl Abort,
-    alloc: Global,
-    peer: u16,
-    limit: u64,
-    bytes: &[u8],
-) -> Command<Payload> {
+/// A Take of a peer's, with that limit.
+fn take<R: Abort>(rt: &R, alloc: Global, peer: u16, limit: u64, bytes: &[u8]) -> Command<Payload> {
     Command::Take {
         peer: PeerId(peer),
         number: 1,
@@ -33,13 +22,24 @@ fn take_from(
     }
 }
 
-/// Whether a command is a Take whose payload lies there.
-fn lies_at(command: &Command<Stored>, start: u64, length: u16) -> bool {
+/// A Take that is staged: its limit and its payload, where that lies, if it has bytes, and whether it is kept.
+type Staged<'a> = (u64, &'a [u8], Option<u64>, bool);
+
+/// Whether a command is a Take with that limit, whose payload of so many bytes lies there, or nowhere.
+fn lies_at(command: &Command<Stored>, limit: u64, start: Option<u64>, length: usize) -> bool {
     match command {
         Command::Take {
-            payload: Stored::Placed(place),
+            limit: given,
+            payload,
             ..
-        } => *place == Place { start, length },
+        } => {
+            *given == limit
+                && match place_of(payload) {
+                    Some(place) => start == Some(place.start)
+                        && usize::from(place.length) == length,
+                    None => start.is_none() && length == 0,
+                }
+        }
         _ => false,
     }
 }
@@ -47,193 +47,192 @@ fn lies_at(command: &Command<Stored>, start: u64, length: u16) -> bool {
 /// Where the gate of a group stands.
 const GATE: u64 = 100;
 
-/// Stages a command that can be recorded in a group for payloads of so many bytes.
-fn staged(
-    rt: &impl Abort,
-    group: &mut Group,
-    command: Command<Payload>,
-    payload: u64,
-) -> Command<Stored>
-    requires limit { payload ≤ 8192 }
-    requires most { group.old.most ≡ payload }
+/// Stages a Take in a group for payloads of so many bytes, and keeps it or gives it up.
+fn stage<R: Abort>(rt: &R, alloc: Global, group: &mut Group, most: u64, staged: Staged)
+    requires limit { most ≤ 8192 }
+    requires most { group.old.most ≡ most }
     requires room { group.old.count < 64 }
     requires nothing { group.old.staged ≡ [] }
-    ensures most { group.new.most ≡ payload }
-    ensures count { group.new.count ≡ group.old.count }
+    ensures most { group.new.most ≡ most }
+    ensures count { group.new.count ≤ group.old.count + 1 }
+    ensures nothing { group.new.staged ≡ [] }
 {
-    assert!(rt; is_recordable(&command, payload));
-    group.stage(GATE, command)
+    let (limit, bytes, start, kept) = staged;
+    let command = take(rt, alloc, 1, limit, bytes);
+    assert!(rt; is_recordable(&command, most));
+    let placed = group.stage(GATE, command);
+    if kept {
+        group.keep();
+    } else {
+        group.discard();
+    }
+    expect!(*rt; lies_at(&placed, limit, start, bytes.len()));
 }
 
-/// The bytes of the disk from there on.
-fn bytes_of(
-    rt: &impl Abort,
+/// Stages all of these.
+fn stage_all<R: Abort>(rt: &R, alloc: Global, group: &mut Group, most: u64, takes: &[Staged])
+    requires limit { most ≤ 8192 }
+    requires most { group.old.most ≡ most }
+    requires room { group.old.count + length takes.now ≤ 64 }
+    requires nothing { group.old.staged ≡ [] }
+    ensures nothing { group.new.staged ≡ [] }
+{
+    for staged in takes {
+        stage(rt, alloc, group, most, *staged);
+    }
+}
+
+/// The bytes of the device: it is longer than the longest group.
+const SIZE: u64 = 526_000;
+
+/// Bytes of the device, and where they begin.
+type Written<'a> = (u64, &'a [u8]);
+
+/// Writes a group that has so many bytes with its gate.
+fn write<R: Abort, D: Disk>(rt: &R, group: &mut Group, disk: &mut D, size: u64)
+    requires nothing { group.old.staged ≡ [] }
+{
+    assert!(rt; !group.is_empty());
+    assert!(rt; group.len() == size && disk.size() == SIZE && size < 525_900);
+    expect!(*rt; group.write(disk, GATE).is_ok());
+    expect!(*rt; group.is_empty());
+}
+
+/// These bytes stand on a disk.
+fn expect_bytes<R: Abort>(rt: &R, alloc: Global, disk: &mut MemDisk, written: &[Written]) {
+    for (place, bytes) in written {
+        expect!(*rt; has(rt, alloc, disk, *place, bytes));
+    }
+}
+
+/// Whether the device has these bytes from there on.
+fn has<R: Abort>(rt: &R, alloc: Global, disk: &mut MemDisk, place: u64, bytes: &[u8]) -> bool {
+    let mut found = vec![in alloc; 0u8; bytes.len()].expect(rt, "memory");
+    assert!(rt; place <= disk.size() && bytes.len() as u64 <= disk.size() - place);
+    disk.read_at(place, &mut found).is_ok() && found.as_slice() == bytes
+}
+
+/// A group for payloads of so many bytes that is made of Takes, and that has so many bytes with its gate.
+fn expect_group<R: Abort, D: Disk>(
+    rt: &R,
     alloc: Global,
-    disk: &mut MemDisk,
-    place: u64,
-    count: usize,
-) -> Vec<u8> {
-    let mut bytes = vec![in alloc; 0u8; count].expect(rt, "memory");
-    assert!(rt; place <= disk.size() && count as u64 <= disk.size() - place);
-    assert!(rt; disk.read_at(place, &mut bytes).is_ok());
-    bytes
+    disk: &mut D,
+    (most, takes): (u64, &[Staged]),
+    size: u64,
+) {
+    assert!(rt; most <= 8_192 && takes.len() <= 64);
+    let mut group = Group::new(alloc, most).expect(rt, "memory");
+    stage_all(rt, alloc, &mut group, most, takes);
+    write(rt, &mut group, disk, size);
+}
+
+/// It is written to a device whose bytes are all `ee`. These stand there then.
+fn expect_written<R: Abort>(
+    rt: &R,
+    alloc: Global,
+    group: (u64, &[Staged]),
+    size: u64,
+    written: &[Written],
+) {
+    let bytes = vec![in alloc; 0xeeu8; SIZE as usize].expect(rt, "memory");
+    let mut disk = MemDisk::new(alloc, bytes);
+    expect_group(rt, alloc, &mut disk, group, size);
+    expect_bytes(rt, alloc, &mut disk, written);
 }
 
 /// The gate is at 100. After it stand the length in 4 bytes, the count in 2, and from 107 on the records, in each of which 23 bytes come
 /// before the payload. A record that is given up leaves its place to the next one.
 #[test]
 fn a_group_tells_its_places(rt: HostRuntime) {
-    expect_places(&rt, rt.alloc());
-}
-
-fn expect_places(rt: &impl Abort, alloc: Global) {
-    let mut disk = MemDisk::new(alloc, vec![in alloc; 0u8; 200].expect(rt, "memory"));
-    let mut group = Group::new(alloc, 1_200).expect(rt, "no fault");
-    let three = staged(rt, &mut group, take_of(rt, alloc, 0, &[7, 8, 9]), 1_200);
-    group.keep();
-    let given_up = staged(rt, &mut group, take_of(rt, alloc, 0, &[1, 2]), 1_200);
-    group.discard();
-    let none = staged(rt, &mut group, take_of(rt, alloc, 0, &[]), 1_200);
-    group.keep();
-    let one = staged(rt, &mut group, take_of(rt, alloc, 0, &[5]), 1_200);
-    group.keep();
-    expect!(*rt; lies_at(&three, 130, 3));
-    expect!(*rt; lies_at(&given_up, 156, 2));
-    expect!(*rt; matches!(&none, Command::Take { payload: Stored::Inline(_), .. }));
-    expect!(*rt; lies_at(&one, 179, 1));
-    assert!(rt; group.len() == 80 && disk.size() == 200);
-    assert!(rt; group.write(&mut disk, GATE).is_ok());
-    expect!(*rt; group.is_empty());
-    expect_written(rt, alloc, &mut disk);
-}
-
-/// The front of that group, its first payload, and its last with the closed gate.
-fn expect_written(rt: &impl Abort, alloc: Global, disk: &mut MemDisk) {
-    expect!(*rt; bytes_of(rt, alloc, disk, 100, 7).as_slice() == [0xa5, 0, 0, 0, 75, 0, 3].as_slice());
-    expect!(*rt; bytes_of(rt, alloc, disk, 130, 3).as_slice() == [7, 8, 9].as_slice());
-    expect!(*rt; bytes_of(rt, alloc, disk, 179, 2).as_slice() == [5, 0].as_slice());
+    let takes: [Staged; 4] = [
+        (0, &[7, 8, 9], Some(130), true),
+        (0, &[1, 2], Some(156), false),
+        (0, &[], None, true),
+        (0, &[5], Some(179), true),
+    ];
+    // the front, the first payload, and the last with the closed gate
+    let written: [Written; 3] = [
+        (100, &[0xa5, 0, 0, 0, 75, 0, 3]),
+        (130, &[7, 8, 9]),
+        (179, &[5, 0, 0xee]),
+    ];
+    expect_written(&rt, rt.alloc(), (1_200, &takes), 80, &written);
 }
 
 /// A record with a limit is of another kind, in which 23 bytes come before the payload too: peer 1, number 1, hop 1, stamp 10, a
 /// limit of 5,000 and two bytes.
 #[test]
 fn a_take_with_a_limit_is_staged(rt: HostRuntime) {
-    expect_limited(&rt, rt.alloc());
+    let take: Staged = (5_000, &[7, 8], Some(130), true);
+    let written: [Written; 1] = [(
+        100,
+        &[
+            0xa5, 0, 0, 0, 27, 0, 1, 5, 1, 0, 0, 0, 0, 0, 1, 1, 0, 0, 0, 0, 0, 0, 10, 0, 0, 0,
+            0x13, 0x88, 0, 2, 7, 8, 0,
+        ],
+    )];
+    expect_written(&rt, rt.alloc(), (1_200, &[take]), 32, &written);
 }
 
-fn expect_limited(rt: &impl Abort, alloc: Global) {
-    let mut disk = MemDisk::new(alloc, vec![in alloc; 0u8; 200].expect(rt, "memory"));
-    let mut group = Group::new(alloc, 1_200).expect(rt, "no fault");
-    let limited = staged(rt, &mut group, take_of(rt, alloc, 5_000, &[7, 8]), 1_200);
-    group.keep();
-    expect!(*rt; lies_at(&limited, 130, 2));
-    expect!(*rt; matches!(&limited, Command::Take { limit: 5_000, .. }));
-    assert!(rt; group.len() == 32 && disk.size() == 200);
-    assert!(rt; group.write(&mut disk, GATE).is_ok());
-    expect!(*rt; bytes_of(rt, alloc, &mut disk, 100, 33).as_slice() == [
-        0xa5, 0, 0, 0, 27, 0, 1, 5, 1, 0, 0, 0, 0, 0, 1, 1, 0, 0, 0, 0, 0, 0, 10, 0, 0, 0, 0x13, 0x88, 0, 2, 7, 8, 0,
-    ].as_slice());
-}
-
-/// Adds a command that can be recorded to a group for payloads of so many bytes.
-fn add(rt: &impl Abort, group: &mut Group, command: Command<Payload>, payload: u64)
-    requires limit { payload ≤ 8192 }
-    requires most { group.old.most ≡ payload }
-    requires room { group.old.count < 64 }
-    requires nothing { group.old.staged ≡ [] }
-    ensures most { group.new.most ≡ payload }
-    ensures count { group.new.count ≡ group.old.count + 1 }
-    ensures nothing { group.new.staged ≡ [] }
-{
-    assert!(rt; is_recordable(&command, payload));
-    let _ = group.stage(GATE, command);
-    group.keep();
-}
-
-/// A group of 64 Takes of so many bytes, the most that it is for.
-fn full_group(rt: &impl Abort, alloc: Global, payload: u64) -> Group
-    ensures count { result.count ≡ 64 }
-    ensures nothing { result.staged ≡ [] }
-{
-    assert!(rt; payload <= MAX_PAYLOAD);
-    let bytes = vec![in alloc; 7u8; payload as usize].expect(rt, "memory");
-    let mut group = Group::new(alloc, payload).expect(rt, "no fault");
+/// A group of 64 Takes of so many bytes, the most that it is for, fills its frame. It has so many bytes with its gate and this front,
+/// and the closed gate stands behind its last payload.
+fn expect_full<R: Abort>(rt: &R, alloc: Global, most: u16, size: u64, front: &[u8]) {
+    let bytes = vec![in alloc; 7u8; usize::from(most)].expect(rt, "memory");
+    let mut takes = Vec::with_capacity(alloc, 64).expect(rt, "memory");
+    let mut start = 130u64;
     for _take in 0..64u64 {
-        add(rt, &mut group, take_of(rt, alloc, 0, &bytes), payload);
+        takes
+            .push((0, bytes.as_slice(), Some(start), true))
+            .expect(rt, "memory");
+        start = start.saturating_add(23 + u64::from(most));
     }
-    group
-}
-
-/// The group of 64 of the longest has so many bytes with a gate: it fills its frame. It is written with this length, and the closed gate
-/// stands behind its last payload. The device has bytes `ee`, and is longer than the longest group.
-fn expect_full(rt: &impl Abort, alloc: Global, payload: u64, size: u64, front: [u8; 7]) {
-    let bytes = vec![in alloc; 0xeeu8; 526_000].expect(rt, "memory");
-    let mut disk = MemDisk::new(alloc, bytes);
-    let mut group = full_group(rt, alloc, payload);
-    assert!(rt; group.len() == size, "{payload}");
-    assert!(rt; disk.size() == 526_000 && size <= 525_767);
-    assert!(rt; group.write(&mut disk, GATE).is_ok());
-    expect!(*rt; group.is_empty());
-    expect!(*rt; bytes_of(rt, alloc, &mut disk, GATE, 7).as_slice() == front.as_slice());
     let last = (GATE - 1).saturating_add(size);
-    expect!(*rt; bytes_of(rt, alloc, &mut disk, last, 3).as_slice() == [7, 0, 0xee].as_slice());
+    let written: [Written; 2] = [(GATE, front), (last, &[7, 0, 0xee])];
+    expect_written(rt, alloc, (u64::from(most), &takes), size, &written);
 }
 
 /// Bodies of 1,538, 78,274 and 525,762 bytes: 2, and 64 times 23 and the payload's.
 #[test]
 fn sixty_four_of_the_longest(rt: HostRuntime) {
-    let alloc = rt.alloc();
-    for (payload, size, front) in [
+    for (most, size, front) in [
         (1, 1_543, [0xa5, 0, 0, 0x06, 0x02, 0, 64]),
         (1_200, 78_279, [0xa5, 0, 0x01, 0x31, 0xc2, 0, 64]),
         (8_192, 525_767, [0xa5, 0, 0x08, 0x05, 0xc2, 0, 64]),
     ] {
-        expect_full(&rt, alloc, payload, size, front);
+        expect_full(&rt, rt.alloc(), most, size, &front);
     }
 }
 
-/// What is longer than payloads of a group may be can't be recorded.
-#[test]
-fn what_is_too_long_has_no_record(rt: HostRuntime) {
-    for (payload, length, want) in [
-        (1, 1, true),
-        (1, 2, false),
-        (1_200, 1_200, true),
-        (1_200, 1_201, false),
-        (8_192, 8_192, true),
-        (8_192, 8_193, false),
-    ] {
-        expect_recordable(&rt, rt.alloc(), payload, length, want);
-    }
-}
+/// A Take of a peer with a limit, how long payloads of a group may be, how long this one is, and whether it can be recorded.
+type Recorded = (u16, u64, u64, usize, bool);
 
-/// A Take of so many bytes can be recorded in a group for payloads of so many, or it can't, with a limit and without.
-fn expect_recordable(rt: &impl Abort, alloc: Global, payload: u64, length: usize, want: bool) {
+fn expect_recorded<R: Abort>(rt: &R, alloc: Global, (peer, limit, most, length, want): Recorded) {
     let bytes = vec![in alloc; 7u8; length].expect(rt, "memory");
-    for limit in [0, 5_000] {
-        let take = take_of(rt, alloc, limit, &bytes);
-        assert!(rt;
-            is_recordable(&take, payload) == want,
-            "{length} of {payload}"
-        );
-    }
+    let command = take(rt, alloc, peer, limit, &bytes);
+    assert!(rt; is_recordable(&command, most) == want, "{length} of {most}");
 }
 
-/// What has a limit and numbers that no spool has can't be recorded; without a limit it can.
+/// What is too long can't be recorded, and what has a limit and numbers that no spool has; without a limit it can.
 #[test]
 fn what_has_no_record_is_told(rt: HostRuntime) {
-    for (peer, limit, want) in [
-        (300, 1, false),
-        (300, 0, true),
-        (1, 1_099_511_627_776, false),
-        (1, 1_099_511_627_775, true),
+    for row in [
+        (1, 0, 1, 1, true),
+        (1, 5_000, 1, 1, true),
+        (1, 0, 1, 2, false),
+        (1, 5_000, 1, 2, false),
+        (1, 0, 1_200, 1_200, true),
+        (1, 5_000, 1_200, 1_200, true),
+        (1, 0, 1_200, 1_201, false),
+        (1, 5_000, 1_200, 1_201, false),
+        (1, 0, 8_192, 8_192, true),
+        (1, 5_000, 8_192, 8_192, true),
+        (1, 0, 8_192, 8_193, false),
+        (1, 5_000, 8_192, 8_193, false),
+        (300, 1, 1_200, 1, false),
+        (300, 0, 1_200, 1, true),
+        (1, 1_099_511_627_776, 1_200, 1, false),
+        (1, 1_099_511_627_775, 1_200, 1, true),
     ] {
-        expect_told(&rt, rt.alloc(), peer, limit, want);
+        expect_recorded(&rt, rt.alloc(), row);
     }
-}
-
-/// A Take of one byte of that peer, with that limit, can be recorded or can't.
-fn expect_told(rt: &impl Abort, alloc: Global, peer: u16, limit: u64, want: bool) {
-    let take = take_from(rt, alloc, peer, limit, &[7]);
-    expect!(*rt; is_recordable(&take, 1_200) == want);
 }

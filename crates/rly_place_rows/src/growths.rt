@@ -1,89 +1,95 @@
-//! Calls that take memory, where one of its growths is refused (`bench/scarce_memory`): each says so, and keeps what it promises.
-use crate::drawing::{BODY, FOUR, disk_of, may_have, spool_of};
-use crate::fetching::{are_there, gives, wanted};
-use rly_checkpoint::Place;
-use rly_core::Refusal;
-use rly_disk::{Disk, MemDisk};
+//! Calls that take memory, where one of its growths is refused (`bench/scarce_memory`): each says
+//! so, and keeps what it promises.
+use crate::drawing::{BODY, FOUR, SIZE, may_have, spool_of};
+use crate::far_disk::{FarDisk, ToldDisk, disk_of};
+use crate::fetching::{Row, are_answers, are_there, outcomes_of};
+use rly_checkpoint::Stored;
+use rly_disk::Disk;
 use rly_drawing::{DrawingFault, draw};
-use rly_fetching::answer_all;
+use rly_fetching::{Outcome, answer_all};
 use rly_grouping::Group;
-use rly_machine::Reply;
+use rly_machine::{Answer, Machine};
 use rly_places::is_placed;
 use rly_scarce::{before, was_refused};
-use std::alloc::AllocError;
-use std::test::Fail;
+use std::alloc::{AllocError, Global};
+use std::process::Abort;
 
 /// Of the two payloads in the victim those are read that there was memory for.
 #[test]
-fn a_copy_of_a_spool(rt: HostRuntime) -> Result<(), Fail> {
-    let alloc = rt.alloc();
-    let mut disk = disk_of(alloc)?;
+fn a_copy_of_a_spool(rt: HostRuntime) {
+    expect_copy(&rt, rt.alloc(), &mut disk_of(&rt, rt.alloc(), SIZE, 0));
+}
+
+fn expect_copy<R: Abort>(rt: &R, alloc: Global, disk: &mut ToldDisk) {
     assert!(rt; may_have(&FOUR, disk.size()));
-    let spool = spool_of(&rt, alloc, &FOUR, &BODY);
-    assert!(rt; is_placed(&FOUR, 0, &spool));
-    before(alloc)?;
-    let told = draw(alloc, &mut disk, &FOUR, 1, &spool);
+    expect_drawn(rt, alloc, disk, &spool_of(rt, alloc, &FOUR, &BODY));
+}
+
+fn expect_drawn<R: Abort>(rt: &R, alloc: Global, disk: &mut ToldDisk, spool: &Machine<Stored>) {
+    assert!(rt; may_have(&FOUR, disk.size()) && is_placed(&FOUR, 0, spool));
+    before(alloc).expect(rt, "memory");
+    let told = draw(alloc, disk, &FOUR, 1, spool);
     let refused = was_refused(alloc);
-    let reads = disk.told().len();
+    expect!(*rt; is_told(&told, refused, disk.told().len()));
+}
+
+/// Whether a copy is made by two reads, or memory was refused after at most as many.
+fn is_told(told: &Result<Machine<Stored>, DrawingFault>, refused: bool, reads: usize) -> bool {
     match told {
-        Ok(copy) => expect!(rt; reads == 2 && copy.item_count() == 4 && copy.byte_count() == 9),
-        Err(fault) => expect!(rt; refused && reads <= 2 && fault == DrawingFault::OutOfMemory),
+        Ok(copy) => reads == 2 && copy.item_count() == 4 && copy.byte_count() == 9,
+        Err(fault) => refused && reads <= 2 && *fault == DrawingFault::OutOfMemory,
     }
-    Ok(())
+}
+
+/// The calls of a round, and the numbers of the refusals of the first and the last one. The second wants no bytes.
+fn three(first: u8, last: u8) -> [Row; 3] {
+    [
+        (7, 1, 41, Some((1_000, 10, 3)), first),
+        (7, 2, 42, Some((2_000, 0, 0)), 0),
+        (7, 3, 43, Some((3_000, 800, 1_200)), last),
+    ]
 }
 
 /// A payload that there is no memory for is refused to its own call, and to no other.
 #[test]
-fn payloads_of_a_round(rt: HostRuntime) -> Result<(), Fail> {
-    let alloc = rt.alloc();
-    let mut disk = MemDisk::new(alloc, vec![in alloc; 7u8; 2_000]?);
-    let mut outcomes = vec![in alloc;
-        wanted(
-            1,
-            41,
-            Some(Place {
-                start: 10,
-                length: 3
-            })
-        ),
-        wanted(2, 42, None),
-        wanted(
-            3,
-            43,
-            Some(Place {
-                start: 800,
-                length: 1_200
-            })
-        ),
-    ]?;
-    assert!(rt; are_there(&outcomes, disk.size()));
-    let mut answers = Vec::with_capacity(alloc, 3)?;
-    before(alloc)?;
-    answer_all(alloc, &mut disk, &mut outcomes, &mut answers);
+fn payloads_of_a_round(rt: HostRuntime) {
+    expect_payloads(
+        &rt,
+        rt.alloc(),
+        &mut outcomes_of(&rt, rt.alloc(), &three(0, 0)),
+    );
+}
+
+fn expect_payloads<R: Abort>(rt: &R, alloc: Global, outcomes: &mut Vec<Outcome>) {
+    let mut disk = FarDisk::new(2_000);
+    assert!(rt; are_there(outcomes, disk.size()) && outcomes.len() == 3);
+    let mut answers = Vec::with_capacity(alloc, 3).expect(rt, "memory");
+    before(alloc).expect(rt, "memory");
+    answer_all(alloc, &mut disk, outcomes, &mut answers);
     let refused = was_refused(alloc);
-    let mut starved = false;
-    for (answer, (number, length)) in answers.iter().zip([(1, 3usize), (2, 0), (3, 1_200)]) {
-        if matches!(answer.reply, Reply::Refused(Refusal::OutOfMemory)) {
-            expect!(rt; length > 0 && !starved);
-            starved = true;
-        } else {
-            expect!(rt; gives(&answer.reply, number, vec![in alloc; 7u8; length]?.as_slice()));
-        }
+    expect!(*rt; are_told(&answers, refused));
+}
+
+/// Whether all give what is wanted, or one refuses memory if that was refused.
+fn are_told(answers: &[Answer], refused: bool) -> bool {
+    match refused {
+        true => are_answers(answers, &three(14, 0)) || are_answers(answers, &three(0, 14)),
+        false => are_answers(answers, &three(0, 0)),
     }
-    expect!(rt; answers.len() == 3 && starved == refused);
-    Ok(())
 }
 
 /// Its memory is that of the largest group: 525,767 bytes.
 #[test]
-fn a_new_group(rt: HostRuntime) -> Result<(), Fail> {
-    let alloc = rt.alloc();
-    before(alloc)?;
+fn a_new_group(rt: HostRuntime) {
+    expect_new_group(&rt, rt.alloc());
+}
+
+fn expect_new_group<R: Abort>(rt: &R, alloc: Global) {
+    before(alloc).expect(rt, "memory");
     let made = Group::new(alloc, 8_192);
     let refused = was_refused(alloc);
     match made {
-        Ok(group) => expect!(rt; !refused && group.is_empty()),
-        Err(AllocError) => expect!(rt; refused),
+        Ok(group) => expect!(*rt; !refused && group.is_empty()),
+        Err(AllocError) => expect!(*rt; refused),
     }
-    Ok(())
 }
