@@ -1,4 +1,5 @@
-//! Places for early Data where one growth of memory is refused (`bench/scarce_memory`): there are none then, and it says so.
+//! Places for early Data where one growth of memory is refused (`bench/scarce_memory`): there are
+//! none then, and it says so.
 use crate::packets::data;
 use rly_early::Early;
 use rly_scarce::{before, was_refused};

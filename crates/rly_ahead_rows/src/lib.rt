@@ -1,8 +1,9 @@
-//! Tests of Data that come ahead of a gap: what is kept, when it is given again, and what a worker makes of it.
+//! Tests of Data that come ahead of a gap: what is kept, when it is given again, and what a worker
+//! makes of it.
 //!
-//! A contract says what one call does for all inputs. These tests compare rows of calls with rows that were worked by hand from the
-//! tables and bytes of docs/PROTOCOL.md. They stand over the built libraries, so that these are proved once. No crate may call it:
-//! it has no code but tests.
+//! A contract says what one call does for all inputs. These tests compare rows of calls with rows
+//! that were worked by hand from the tables and bytes of docs/PROTOCOL.md. They stand over the
+//! built libraries, so that these are proved once. No crate may call it: it has no code but tests.
 #![tactic(auto)]
 
 /// As `assert!`, by one call: the prover then sees one way on where `assert!` has two. A number after the condition names a row.

@@ -1,4 +1,5 @@
-//! A link that keeps early Data, over a link in memory. The stations are those of docs/PROTOCOL.md, "An exchange, byte for byte".
+//! A link that keeps early Data, over a link in memory. The stations are those of
+//! docs/PROTOCOL.md, "An exchange, byte for byte".
 use crate::expect::expect_row;
 use crate::packets::{custody, data, limited, put};
 use rly_ahead::Ahead;

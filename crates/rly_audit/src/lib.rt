@@ -1,9 +1,9 @@
 //! The audit: what a device holds, as a report for its operator.
 //!
-//! `audit` opens a device, writes the report on the state that it stands for, and hands the
-//! device back. A report is a function of the state alone (`specs/Report.antt`);
-//! `specs/Audit.antt` says what the call leaves. It takes any disk and any writer. `live_items`
-//! counts what lives in an open journal. The program and tests call them.
+//! `audit` opens a device, writes the report on the state that it stands for, and hands the device
+//! back. A report is a function of the state alone (`specs/Report.antt`); `specs/Audit.antt` says
+//! what the call leaves. It takes any disk and any writer. `live_items` counts what lives in an
+//! open journal. Callers: `rly_commands` and `rly_serve`.
 #![tactic(auto)]
 
 mod auditing;

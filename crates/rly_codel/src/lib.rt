@@ -3,8 +3,8 @@
 //!
 //! `dequeue` meets `specs/Cases.antt`, a table of five cases without a loop. `specs/Loop.antt` is
 //! the RFC's pseudocode, and `law_cases_are_the_loop` says that both agree. It takes no memory,
-//! asks a `Lane` for what waits, and asks a `Control` of `rly_law` for drop times. `dequeue_with` is
-//! the same with a `Control` that the caller keeps. Caller: `rly_machine`.
+//! asks a `Lane` for what waits, and asks a `Control` of `rly_law` for drop times. `dequeue_with`
+//! is the same with a `Control` that the caller keeps. Caller: `rly_machine`.
 #![tactic(auto)]
 
 mod discard;

@@ -2,7 +2,7 @@
 //!
 //! `run` is the whole program up to its status; `specs/Program.antt` says what a command leaves
 //! that ended well. The calls of `rly_commands`, `rly_text`, `rly_settings`, `rly_station` and
-//! `rly_serve` are handed on. This is the edge: only the program and tests call it.
+//! `rly_serve` are handed on. This is the edge: only the program `rly` calls it.
 #![tactic(auto)]
 
 mod counted_disk;

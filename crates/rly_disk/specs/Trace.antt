@@ -196,7 +196,7 @@ pub record Makes {D : Type 0} (state : D → DiskState) (calls : List DeviceEven
   pub made : IsMade whole (is_spent (state new)) calls events
   pub untouched : events ≡ [] → new ≡ old
 
--- the calls before a row were made, all of them or those up to the first that failed, and then no other
+-- a prefix of a row of calls was made, whole or up to the first that failed, and nothing else
 pub record MakesFront {D : Type 0} (state : D → DiskState) (calls : List DeviceEvent) (whole : Bool) (old new : D)
     : Type 0 where
   pub front : List DeviceEvent

@@ -1,5 +1,5 @@
-//! A report on a device where one growth of memory is refused (`bench/scarce_memory`): it says so, nothing is written, and the
-//! device reads as before.
+//! A report on a device where one growth of memory is refused (`bench/scarce_memory`): it says so,
+//! nothing is written, and the device reads as before.
 use crate::audits::{bytes_of, report_on, six_takes_and_three_picks};
 use rly_audit::{AuditFault, audit};
 use rly_core::Refusal;

@@ -1,4 +1,5 @@
-//! Laws of rows of calls that are tried one after the other, each the contract of a function without a body.
+//! Laws of rows of calls that are tried one after the other, each the contract of a function
+//! without a body.
 
 ghost use Rattle.std.specs.Prelude.{◌≡◌, ◌↔◌, ◌+◌, ◌≤◌, ◌++◌, ◌∷◌, [], Bool, false, List};
 ghost use Rattle.rly_disk.specs.DiskModel.{Later, NothingNew, Settled, SettlesNothing};

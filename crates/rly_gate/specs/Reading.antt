@@ -1,8 +1,8 @@
 -- What it is to read a group, and to read a disk and do nothing else.
-use Rattle.std.specs.Prelude.{ℕ, ◌≡◌, ◌+◌, ◌<◌, ◌≤◌, ◌^◌, List, ◌∷◌}
+use Rattle.std.specs.Prelude.{ℕ, ◌+◌, ◌<◌, ◌≤◌, ◌^◌, List, ◌∷◌}
 use Rattle.std.specs.Prelude.{◌++◌, length, Option, Some, None, Result, Ok, Err, Vec}
 use Rattle.byteorder.specs.Endian.{big_bytes}
-use Rattle.rly_disk.specs.DiskModel.{DiskState, Later, NothingNew, Settled, SettlesNothing}
+use Rattle.rly_disk.specs.DiskModel.{DiskState, Later, NothingNew, Settled}
 use Rattle.rly_gate.specs.declared.read.GroupFault.{GroupFault}
 use Rattle.rly_gate.specs.declared.read.GroupFault.TheVariants.{OutOfMemory, Damaged, Device}
 use Rattle.rly_gate.specs.Group.{IsClosed, IsOpen, StandsAt, frame_of, open_gate}
@@ -35,8 +35,3 @@ pub record OnlyRead (old new : DiskState) : Type 0 where
   pub crash : old.honest → NothingNew old new
   pub settled : Settled old → Settled new
   pub later : Later old new
-
--- no sync was made: a crash may leave all that it might have left before
-pub record SyncsNothing (old new : DiskState) : Type 0 where
-  pub crash : old.honest → SettlesNothing old new
-  pub syncs : new.syncs ≡ old.syncs

@@ -6,7 +6,8 @@
 //! (`law_append`). `read_group` reads one (`specs/Reading.antt`). `settle`, `is_open`, `fill` and
 //! `read_bytes` are their steps; heads and headers are written and read by them too. Each says
 //! which calls it makes of the disk (`specs/Calls.antt`), and `rly_disk` what follows from them.
-//! It works on any disk that keeps to the disk model. Callers: `rly_segment` and `rly_standing`.
+//! It works on any disk that keeps to the disk model. Callers: `rly_journal` and the crates below
+//! it that read or write a device, and `rly_daemon`, which counts the gates that are opened.
 #![tactic(auto)]
 
 mod append;

@@ -1,4 +1,5 @@
-//! Laws of a group and of the places that it tells, each the contract of a function without a body.
+//! Laws of a group and of the places that it tells, each the contract of a function without a
+//! body.
 
 ghost use Rattle.std.specs.Prelude.{◌≡◌, ◌+◌, ◌-◌, ◌<◌, ◌≤◌, ◌++◌, ◌∷◌, [], List, length, map, true, ℕ};
 ghost use Rattle.std.specs.List.{AllByRecursion};

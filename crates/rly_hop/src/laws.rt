@@ -1,5 +1,5 @@
-//! Laws of the definitions, each the contract of a function without a body. The contracts of `read_message`,
-//! `write_message` and the two `step`s cite the same definitions.
+//! Laws of the definitions, each the contract of a function without a body. The contracts of
+//! `read_message`, `write_message` and the two `step`s cite the same definitions.
 
 mod messages;
 mod receiving;

@@ -4,8 +4,9 @@
 //! `read_message` and `write_message` meet the one spelling of each message
 //! (`specs/Spelling.antt`, `specs/Reading.antt`). `Receiving::step` and `Sending::step` are the
 //! two tables of `docs/PROTOCOL.md` (`specs/Receiving.antt`, `specs/Sending.antt`). Nothing here
-//! takes memory or waits, and only the bytes make a call fail. Caller: `rly_workers`, whose
-//! workers do what the machines name.
+//! takes memory or waits, and only the bytes make a call fail. Callers: `rly_workers` and
+//! `rly_pair`, which do what the machines name, and the crates of links, of reports and of a
+//! station, which read messages or name stations.
 #![tactic(auto)]
 
 mod kind;

@@ -136,7 +136,8 @@ pub(crate) fn step(
     Ok(index.apply(command, room, next))
 }
 
-/// Opens the next segment, with generation 2, as a journal will: its head holds a copy of the spool in which the victim's payloads are inline.
+/// Opens the next segment, with generation 2, as a journal will: its head holds a copy of the spool in which the victim's
+/// payloads are inline.
 fn open_next(rt: &impl Abort, alloc: Global, disk: &mut MemDisk, index: &mut Index) {
     law_drawn();
     law_but_for_bytes();

@@ -1,4 +1,5 @@
-//! Steps of an index where one growth of memory is refused (`bench/scarce_memory`): it says so, and stays as it is.
+//! Steps of an index where one growth of memory is refused (`bench/scarce_memory`): it says so,
+//! and stays as it is.
 use crate::counters::{live, new_index, pick, step, take};
 use rly_index::Index;
 use rly_scarce::{before, was_refused};

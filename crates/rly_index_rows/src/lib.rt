@@ -1,8 +1,8 @@
 //! Tests of the index of a spool whose payloads stay on the device.
 //!
-//! They compare its counters and places with rows worked by hand, on a disk in memory. They use the
-//! built libraries, so that these are proved once. The crate has no code but tests, so no crate may
-//! call it.
+//! They compare its counters and places with rows worked by hand, on a disk in memory. They use
+//! the built libraries, so that these are proved once. The crate has no code but tests, so no
+//! crate may call it.
 #![tactic(auto)]
 
 /// As `assert!`, by one call: the prover then sees one way on where `assert!` has two. `assert!` stands where a later call needs

@@ -1,4 +1,5 @@
-//! Laws of what an image stands for, each the contract of a function without a body. `Journal::open` cites the same definitions.
+//! Laws of what an image stands for, each the contract of a function without a body.
+//! `Journal::open` cites the same definitions.
 
 ghost use Rattle.std.specs.Prelude.{ℕ, List};
 ghost use Rattle.rly_machine.specs.State.{State};

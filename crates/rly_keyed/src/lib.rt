@@ -1,10 +1,10 @@
 //! Two relays whose links have keys, as definitions, and what holds of them whatever is delivered.
 //!
-//! `specs/KeyedWorld.antt` has two relays to which a network delivers any bytes, any number of times and
-//! in any order. What is relied on a tag for is a premise there, and proved nowhere: what has a right
-//! tag was sealed by one of the two ends. `law_keyed` then has what `rly_world` says of two relays that
-//! hear only each other. It stands on a function that needs no memory and takes no handle. No crate
-//! uses it.
+//! `specs/KeyedWorld.antt` has two relays to which a network delivers any bytes, any number of
+//! times and in any order. What is relied on a tag for is a premise there, and proved nowhere:
+//! what has a right tag was sealed by one of the two ends. `law_keyed` then has what `rly_world`
+//! says of two relays that hear only each other. It stands on a function that needs no memory and
+//! takes no handle. No crate uses it.
 #![tactic(auto)]
 
 ghost use Rattle.std.specs.Prelude.{◌≡◌, ◌≤◌, ℕ, List, Some, length};

@@ -4,7 +4,8 @@
 //! `step` is the greatest whole d with `d * d * count <= interval * interval`, the RFC's
 //! `interval / sqrt(count)` rounded down (`specs/ControlLaw.antt`). It has no floats and takes no
 //! memory. A `Control` is the law at one interval: `Plain` computes each step, and `StepTable` has
-//! the first ones at hand. Caller: `rly_codel`, once for each drop time that it sets.
+//! the first ones at hand. Callers: `rly_codel`, once for each drop time that it sets, and
+//! `rly_machine`, which keeps a `StepTable`.
 #![tactic(auto)]
 
 mod control;

@@ -10,12 +10,6 @@ use Rattle.rly_line.specs.Submission.{IsBeginning, LineId}
 use Rattle.rly_line.proofs.Making.{between}
 use Rattle.rly_line.proofs.Replying.{before_that}
 
--- the name of a line is at its place among the names
-pub named : (lines : List Teller) (seat : ℕ) (d : Teller) → d.of ≡ None → get_or (names_of lines) seat None ≡ (get_or lines seat d).of
-named [] seat d none = sym none
-named (x ∷ lines) zero d none = refl
-named (x ∷ lines) (suc k) d none = named lines k d none
-
 pub as_many_names : (lines : List Teller) → length (names_of lines) ≡ length lines
 as_many_names lines = length-map lines (λ (t : Teller). t.of)
 

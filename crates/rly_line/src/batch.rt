@@ -1,5 +1,5 @@
-//! What goes through the lines: asks of one seat that are put together, and their answers, which come back together
-//! in the same memory.
+//! What goes through the lines: asks of one seat that are put together, and their answers, which
+//! come back together in the same memory.
 
 ghost use Rattle.std.specs.Prelude.{◌≡◌, ◌+◌, ◌<◌, ◌≤◌, ◌^◌, ◌∷◌, ◌++◌, [], drop, length, take, vec_capacity};
 ghost use Rattle.rly_core.specs.Bounds.{IsIn};

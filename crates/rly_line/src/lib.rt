@@ -1,10 +1,10 @@
-//! Seats and the line that they share: callers in threads of their own put batches of 1 to 64 calls
-//! into one line, and each is answered in a line of its own, batch by batch.
+//! Seats and the line that they share: callers in threads of their own put batches of 1 to 64
+//! calls into one line, and each is answered in a line of its own, batch by batch.
 //!
-//! `specs/Submission.antt` has the rule of the line that batches go into, `specs/Replies.antt` that
-//! of a line that answers come out of. Callers use `Seat::call_all`, or `Seat::call` for one ask. The
-//! one thread that answers has a `Responder` over a `LineEnd`. What it told each seat is a prefix of one history, which is
-//! legal but for the bytes of a Fetch (`docs/CLAIMS.md`).
+//! `specs/Submission.antt` has the rule of the line that batches go into, `specs/Replies.antt`
+//! that of a line that answers come out of. Callers use `Seat::call_all`, or `Seat::call` for one
+//! ask. The one thread that answers has a `Responder` over a `LineEnd`. What it told each seat is
+//! a prefix of one history, which is legal but for the bytes of a Fetch (`docs/CLAIMS.md`).
 #![tactic(auto)]
 
 mod batch;

@@ -1,5 +1,5 @@
-//! A plan that is read where one growth of memory is refused (`bench/scarce_memory`): that is the answer, or the answer is as
-//! ever, since a list whose growth is refused may grow by less.
+//! A plan that is read where one growth of memory is refused (`bench/scarce_memory`): that is the
+//! answer, or the answer is as ever, since a list whose growth is refused may grow by less.
 use crate::plans::WHOLE;
 use rly_core::Refusal;
 use rly_plan::Plan;

@@ -1,9 +1,9 @@
 //! Tests of the pace of a hop: rows worked by hand from RFC 6298, RFC 5681 and RFC 6928
-//! (docs/PROTOCOL.md, "The pace of a hop"), and what a sending worker over a link in memory makes of
-//! it.
+//! (docs/PROTOCOL.md, "The pace of a hop"), and what a sending worker over a link in memory makes
+//! of it.
 //!
-//! They stand over the built libraries, so that these are proved once. No crate may call it: it has no
-//! code but tests.
+//! They stand over the built libraries, so that these are proved once. No crate may call it: it
+//! has no code but tests.
 #![tactic(auto)]
 
 /// As `assert!`, by one call: the prover then sees one way on where `assert!` has two. A number after the condition names a row.

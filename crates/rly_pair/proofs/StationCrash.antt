@@ -20,9 +20,6 @@ use Rattle.rly_pair.proofs.StationStanding.{accepted_take, seq_at, standing_acce
 use Rattle.rly_pair.proofs.StationSteps.{shown}
 
 module _ (params : Params) (commands : Commands) (told due harmed : ℕ) (under : told ≤ due) (asked : List Asked) (replied : List Replied) where
-  abbrev all : Commands
-  all = accepted_in params commands
-
   -- each image that a crash may leave
   leaves_of : (spool : Spool) → due ≤ length (accepted_in params commands) → IsSpool params commands due harmed (Some spool) → IsDurableSpool spool
       → (image : List ℕ) → (fault_state mem_state (disk_of spool)).images image → Leaves params commands due image

@@ -1,8 +1,10 @@
-//! Two relays that run: real journals over devices in memory, the two protocol cores, and every packet between them.
+//! Two relays that run: real journals over devices in memory, the two protocol cores, and every
+//! packet between them.
 //!
-//! `Pair::step` does one thing that may happen to them, and its contract says which event of two relays that is
-//! (`specs/PairSteps.antt`). So `law_two` of `rly_world` holds of them after any steps. Only tests call it: it shows
-//! that the world which the law speaks of is one that runs. It takes no handle.
+//! `Pair::step` does one thing that may happen to them, and its contract says which event of two
+//! relays that is (`specs/PairSteps.antt`). So `law_two` of `rly_world` holds of them after any
+//! steps. Only tests call it: it shows that the world which the law speaks of is one that runs. It
+//! takes no handle.
 #![tactic(auto)]
 
 mod calls;

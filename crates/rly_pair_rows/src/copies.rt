@@ -1,4 +1,5 @@
-//! Two copies of one datagram that arrive together, each at a core of its own, and a device that fails.
+//! Two copies of one datagram that arrive together, each at a core of its own, and a device that
+//! fails.
 use crate::expect::{SMALL, expect};
 use rly_core::{HopId, PeerId, Refusal};
 use rly_disk::{After, Disk, FaultDisk, MemDisk};

@@ -1,5 +1,5 @@
-//! Two relays with long payloads. Where the lower's spool is made for shorter ones, what is too long for it is refused each time
-//! that it comes, and nothing after it is taken.
+//! Two relays with long payloads. Where the lower's spool is made for shorter ones, what is too
+//! long for it is refused each time that it comes, and nothing after it is taken.
 use crate::expect::SMALL;
 use crate::script::{Act, ONE_CALL, Said, Script, Stage, expect_scripts};
 use rly_core::{Geometry, Params};

@@ -1,5 +1,5 @@
-//! Two relays, where the upper's datagrams have age limits: what is past its limit goes to no relay, and what is sent has its
-//! limit at the next one too, where it is counted anew.
+//! Two relays, where the upper's datagrams have age limits: what is past its limit goes to no
+//! relay, and what is sent has its limit at the next one too, where it is counted anew.
 use crate::expect::SMALL;
 use crate::script::{Act, Said, Script, Stage, expect_script, expect_scripts};
 use rly_core::{Geometry, Params};

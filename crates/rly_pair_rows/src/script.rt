@@ -1,4 +1,5 @@
-//! What is done to two relays, and the packets that are sent on it: a script is a row of stages, and a stage is a table.
+//! What is done to two relays, and the packets that are sent on it: a script is a row of stages,
+//! and a stage is a table.
 use crate::expect::expect;
 use rly_core::{Geometry, HopId, PeerId};
 use rly_disk::{After, Torn};

@@ -2,10 +2,10 @@
 //! has.
 //!
 //! `specs/Places.antt` says what lies where, and `specs/Room.antt` what a head has room for
-//! (docs/DEFINITIONS.md, "Places"). By the live bytes of each segment `choose` finds the segment that
-//! is opened next, and the one that gives up its payloads, without a look at the items. `is_placed`
-//! decides whether a head may have its payloads where they are (`specs/Placed.antt`). Pure; it
-//! takes no memory. The payloads of `rly_journal` stand so.
+//! (docs/DEFINITIONS.md, "Places"). By the live bytes of each segment `choose` finds the segment
+//! that is opened next, and the one that gives up its payloads, without a look at the items.
+//! `is_placed` decides whether a head may have its payloads where they are (`specs/Placed.antt`).
+//! Pure; it takes no memory. The payloads of `rly_journal` stand so.
 #![tactic(auto)]
 
 mod choosing;

@@ -1,10 +1,11 @@
 //! The contact plan: which link is open when, and where a destination goes.
 //!
-//! `Plan::from_toml` answers the plan that a text writes, or the first fault of the passes over
-//! it (`specs/Passes.antt`; `docs/FORMATS.md`, "The plan"): `rly_plan_draft` reads its keys and
+//! `Plan::from_toml` answers the plan that a text writes, or the first fault of the passes over it
+//! (`specs/Passes.antt`; `docs/FORMATS.md`, "The plan"): `rly_plan_draft` reads its keys and
 //! values, and this crate judges the numbers. `Plan::link` is the link clock: at how many of the
 //! moments before now a hop's link was open (`specs/LinkClock.antt`). The crate holds no handle,
-//! and takes no memory once a plan is read. The workers call it.
+//! and takes no memory once a plan is read. Callers: the workers, and the crates above that are
+//! given a plan.
 #![tactic(auto)]
 
 mod contacts;

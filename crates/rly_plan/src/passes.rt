@@ -1,5 +1,5 @@
-//! Passes 4 to 7: the numbers of a plan, each pass over the whole of it. A pass is met where it tells
-//! no place of a fault.
+//! Passes 4 to 7: the numbers of a plan, each pass over the whole of it. A pass is met where it
+//! tells no place of a fault.
 
 ghost use Rattle.std.specs.Prelude.{◌≡◌, ◌<◌, ◌^◌, ℕ, false, IfOk, map, slice_index_or, vec_len};
 ghost use Rattle.rly_plan.specs.Passes.{contact_from, contact_in_range, is_between, is_in_range, is_sorted, is_station, leads_to_hops, number, number_16, number_32, overlaps, rate_in_range, repeats, resend_in_range};

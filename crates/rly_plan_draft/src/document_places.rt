@@ -1,4 +1,5 @@
-//! Where a document has its first fault, in the passes over its keys and over the types of its values.
+//! Where a document has its first fault, in the passes over its keys and over the types of its
+//! values.
 
 ghost use Rattle.std.specs.Prelude.{◌≡◌, option_map};
 ghost use Rattle.toml.specs.View.{array_view, table_view, view};

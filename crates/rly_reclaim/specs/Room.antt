@@ -3,8 +3,7 @@ use Rattle.std.specs.Prelude.{ℕ, ◌+◌, ◌*◌, ◌/◌, ◌-◌, ◌<◌, 
 use Rattle.rly_core.specs.declared.params.Geometry.{Geometry}
 
 -- the bytes of the largest group where payloads have at most so many: 64 Takes of the longest with its gate, and one
--- gate
--- more
+-- gate more
 abbrev pub group_room : ℕ → ℕ
 group_room payload = 64 * (23 + payload) + 8
 

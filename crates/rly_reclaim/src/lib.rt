@@ -2,7 +2,8 @@
 //! which one that is, and whose payloads move into it.
 //!
 //! `specs/Room.antt` and `specs/Reclaiming.antt` say it (docs/DEFINITIONS.md, "Room"). It takes no
-//! memory and no handle. Callers: `rly_segment`, `rly_index`, `rly_journal` and `rly_daemon`.
+//! memory and no handle. Callers: the crates that choose, read and write segments, and
+//! `rly_commands`, which says how long they have to be.
 #![tactic(auto)]
 
 mod laws;

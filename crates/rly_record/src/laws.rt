@@ -1,5 +1,5 @@
-//! Laws of the spelling, each the contract of a function without a body. The contracts of the functions that read and
-//! write cite the same definitions.
+//! Laws of the spelling, each the contract of a function without a body. The contracts of the
+//! functions that read and write cite the same definitions.
 
 ghost use Rattle.std.specs.Prelude.{◌≡◌, ◌≤◌, ◌++◌, ℕ, All, List, length};
 ghost use Rattle.std.specs.List.{AllByRecursion};

@@ -4,8 +4,8 @@
 //! Writing and reading meet one spelling (`specs/Spelling.antt`; `docs/FORMATS.md`, "Bodies and
 //! records"). What is written is the spelling, what is read is what the bytes spell, and only
 //! bytes that spell nothing are malformed. Reading takes memory only for what it answers. Writing
-//! takes none if the caller's buffer has the room. Callers: `rly_standing`; `rly_checkpoint`
-//! shares its fault and the readers of its fields (`specs/HelpersReading.antt`).
+//! takes none if the caller's buffer has the room. Callers: `rly_grouping` and `rly_journal`;
+//! `rly_checkpoint` shares its fault and the readers of its fields (`specs/HelpersReading.antt`).
 #![tactic(auto)]
 
 mod decode_fault;

@@ -1,4 +1,5 @@
-//! The parts of a round: batches are taken, the journal serves their calls, and the answers are put in the reply lines.
+//! The parts of a round: batches are taken, the journal serves their calls, and the answers are
+//! put in the reply lines.
 
 ghost use Rattle.std.specs.Prelude.{◌≡◌, ◌≤◌, [], true, false, length, vec_capacity, MatchBool, None, OnOk};
 ghost use Rattle.rly_core.specs.Bounds.{IsIn};

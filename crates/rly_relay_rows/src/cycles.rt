@@ -1,5 +1,5 @@
-//! Three cycles, on two segments, on three and on four: 32 datagrams are taken, picked and fetched, and
-//! from the second cycle on those of the cycle before are released.
+//! Three cycles, on two segments, on three and on four: 32 datagrams are taken, picked and
+//! fetched, and from the second cycle on those of the cycle before are released.
 use crate::script::{Act, NONE, Row, Told, expect_round, new_relay, open_again};
 use rly_core::{Geometry, Params};
 use rly_disk::Torn;

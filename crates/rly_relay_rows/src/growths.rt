@@ -1,5 +1,6 @@
-//! Steps of a relay where one growth of memory is refused (`bench/scarce_memory`). A step that says so has done nothing, and is
-//! made when it is made again; else the ask that memory was refused to is told so, and the relay goes on.
+//! Steps of a relay where one growth of memory is refused (`bench/scarce_memory`). A step that
+//! says so has done nothing, and is made when it is made again; else the ask that memory was
+//! refused to is told so, and the relay goes on.
 use crate::cycles::DEVICE;
 use crate::script::{Act, HOP, PEER, SEAT, Told, new_relay, open_again, step, told_in, told_once};
 use rly_core::Refusal;

@@ -1,5 +1,5 @@
-//! Datagrams with age limits, through every phase of a round: in records, in the head of a segment that is opened, over crashes and
-//! openings, until a pick finds them past their limit.
+//! Datagrams with age limits, through every phase of a round: in records, in the head of a segment
+//! that is opened, over crashes and openings, until a pick finds them past their limit.
 use crate::script::{
     Act, NONE, Row, Told, expect_alone, expect_round, new_relay, open_again, open_at, told_once,
 };

@@ -1,4 +1,5 @@
-//! Reads of the device that fail: the calls that want them are told so, nothing changes, and the relay goes on.
+//! Reads of the device that fail: the calls that want them are told so, nothing changes, and the
+//! relay goes on.
 use crate::cycles::{DEVICE, Kind, Round, expect_rounds, rows_of};
 use crate::script::{Row, Told, expect_round, new_relay, open_at, told_of};
 use rly_core::Refusal;

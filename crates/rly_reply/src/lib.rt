@@ -1,5 +1,5 @@
-//! The line of a reply, as the commands print it, and the counts of a hop, which `show`, an audit and
-//! a report share. It has no handles.
+//! The line of a reply, as the commands print it, and the counts of a hop, which `show`, an audit
+//! and a report share. It has no handles.
 //!
 //! `specs/Replies.antt` gives the line of a reply, and `specs/Counts.antt` the counts. Callers:
 //! `rly_text`, `rly_audit` and `rly_report`.

@@ -5,6 +5,7 @@
 //! `HopReport::at` are those of `specs/Hops.antt`, and `text_of` answers the text that
 //! `specs/ReportText.antt` defines (`docs/DEFINITIONS.md`, "Reports"). `told_text` is that text by
 //! what Show was answered and what was counted (`specs/Told.antt`). The crate holds no handle.
+//! Caller: `rly_reporter`.
 #![tactic(auto)]
 
 mod asks;

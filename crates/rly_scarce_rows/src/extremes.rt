@@ -1,4 +1,5 @@
-//! The greatest line, and a window of the longest datagrams: a bound of the code's own would hide there, as a refusal of memory.
+//! The greatest line, and a window of the longest datagrams: a bound of the code's own would hide
+//! there, as a refusal of memory.
 use crate::growths::workers::{MemEnds, ends_of, run};
 use rly_core::{HopId, Params, PeerId};
 use rly_line::make;

@@ -1,6 +1,6 @@
 //! Calls that take memory, where one growth of it is refused (`bench/scarce_memory`): records and
-//! bodies, seats and their line, the flusher, the workers, and two relays. And the greatest line, and
-//! a window of the longest datagrams.
+//! bodies, seats and their line, the flusher, the workers, and two relays. And the greatest line,
+//! and a window of the longest datagrams.
 //!
 //! No contract can say that an allocator refused. So each test here expects of its call what it
 //! promises then, and that a refusal comes only where a growth was refused. The calls of other

@@ -1,4 +1,5 @@
-//! Sealed packets: the worked bytes of docs/PROTOCOL.md, and packets that were changed on their way.
+//! Sealed packets: the worked bytes of docs/PROTOCOL.md, and packets that were changed on their
+//! way.
 use crate::keys::{BOTH, CUSTODY, LINE, OTHER, TAG, TURNED};
 use rly_tag::Key;
 use std::process::Abort;

@@ -1,10 +1,10 @@
 //! Tests of seats and their line, and of the flusher that answers them.
 //!
 //! A contract says what one call does for all inputs, and none says that a thread runs or that a
-//! message comes. These tests run callers in threads to their end, each at a seat, and compare what
-//! they were told with what a person wrote down (docs/DEFINITIONS.md, docs/PROTOCOL.md). They stand
-//! over the built libraries, so that these are proved once. No crate may call it: it has no code but
-//! tests.
+//! message comes. These tests run callers in threads to their end, each at a seat, and compare
+//! what they were told with what a person wrote down (docs/DEFINITIONS.md, docs/PROTOCOL.md). They
+//! stand over the built libraries, so that these are proved once. No crate may call it: it has no
+//! code but tests.
 #![tactic(auto)]
 
 /// As `assert!`, by one call: the prover then sees one way on where `assert!` has two.

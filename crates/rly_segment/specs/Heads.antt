@@ -114,6 +114,3 @@ pub record IsOpeningOf {P : Type 0} (len : P → ℕ) (form : Spelled P) (g : Ge
   pub outside : SameOutside (segment_place g segment) g.length old image
   pub whole : IsPassedOver g segment old image
       ⊎ StandsAt image (segment_place g segment) (opened_spelled len form generation s)
-
-abbrev pub IsOpening : Geometry → ℕ → ℕ → State (List ℕ) → List ℕ → List ℕ → Type 0
-IsOpening = IsOpeningOf length inline_form

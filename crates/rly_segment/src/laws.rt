@@ -1,5 +1,5 @@
-//! What a crash leaves of the calls that open a segment, and that a head stands for one state, each on a function that does
-//! nothing.
+//! What a crash leaves of the calls that open a segment, and that a head stands for one state,
+//! each on a function that does nothing.
 
 ghost use Rattle.std.specs.Prelude.{◌≡◌, ◌↔◌, ◌<◌, ◌∷◌, ◌++◌, [], Bool, IsTrue, List, length, ℕ};
 ghost use Rattle.rly_core.specs.declared.params.Geometry.{Geometry as AGeometry};

@@ -1,4 +1,5 @@
-//! The running relay of a station: its workers at their posts, on a journal, until they have ended.
+//! The running relay of a station: its workers at their posts, on a journal, until they have
+//! ended.
 //!
 //! `serve` starts them, and says what it serves; `specs/Serving.antt` says what each of them did.
 //! `serve_reporting` is the same with a reporter beside it (`specs/Reporting.antt`). Caller:

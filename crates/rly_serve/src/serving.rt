@@ -38,11 +38,11 @@ use std::time::Clock;
 /// What a relay over UDP leaves.
 pub type UdpRelayed<'a, D, H> = Relayed<D, NeighbourLink<&'a H>, WallClock<&'a H>>;
 
-/// Runs the relay of a plan, with the keys of its links, on a journal until each worker had its turns, and answers what it leaves. Where the turns are 0
-/// they are without end. Once all that it needs is there it tells what it serves, on a device of `size` bytes; where that
-/// can't be told it serves all the same, and the answer is `Untold` at its end. Once the journal is broken each worker ends
-/// at its next turn, and the answer is `Broken`. Where the system has no thread for one of them, the others end at once, and the
-/// answer is `Worker`. A fault gives the disk back.
+/// Runs the relay of a plan, with the keys of its links, on a journal until each worker had its turns, and answers what it
+/// leaves. Where the turns are 0 they are without end. Once all that it needs is there it tells what it serves, on a device of
+/// `size` bytes; where that can't be told it serves all the same, and the answer is `Untold` at its end. Once the journal is
+/// broken each worker ends at its next turn, and the answer is `Broken`. Where the system has no thread for one of them, the
+/// others end at once, and the answer is `Worker`. A fault gives the disk back.
 pub fn serve<'a, H: AllocGlobal + Net + Threads + Wait + Clock + Sync, D: Disk + Drop, E: Write>(
     rt: &'a H,
     journal: Journal<D>,

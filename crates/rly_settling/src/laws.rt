@@ -1,4 +1,5 @@
-//! The live bytes of each segment once a head's payloads lie in it, the contract of a function without a body.
+//! The live bytes of each segment once a head's payloads lie in it, the contract of a function
+//! without a body.
 
 ghost use Rattle.std.specs.Prelude.{◌≡◌, ◌≢◌, ◌+◌, ◌≤◌, ℕ};
 ghost use Rattle.rly_core.specs.declared.params.Geometry.{Geometry};

@@ -30,7 +30,7 @@ use Rattle.rly_segment.specs.Formatted.{IsFormatted}
 use Rattle.rly_segment.specs.Heads.{IsHead, IsHeadOf, IsPassedOver, generation_in, head_of, head_spelled, opened_head, opened_spelled, segment_place}
 use Rattle.rly_segment.proofs.HeadWriting.{length-new}
 use Rattle.rly_segment.proofs.Standing.{stands_back, stands_front}
-use Rattle.rly_standing.specs.Standing.{AreAccepted, Commands, HoldGroups, IsScanned, IsStanding, Standing, Stands, next_gate, standing_end, first_of, gate_behind, gate_of, replayed, state_in}
+use Rattle.rly_standing.specs.Standing.{AreAccepted, Commands, HoldGroups, IsScanned, IsStanding, Standing, Stands, next_gate, standing_end, first_of, gate_behind, gate_of, replayed, state_in, stored_after, stored_commands}
 use Rattle.rly_standing.specs.Framing.{SameBytes}
 use Rattle.rly_standing.proofs.Agreeing.{apart, number_of_bytes, number_still, same_before, same_behind}
 use Rattle.rly_standing.proofs.Frame.{SameReads, device_still, frame, frame_scanned, gate_above, geometry_still, length-group, length-head, length-spelled}
@@ -54,6 +54,11 @@ gate_behind-more at (first ∷ groups) commands = gate_behind-more (next_gate at
 pub replayed-more : (s : State (List ℕ)) (groups : List Commands) (commands : Commands) → replayed s (groups ++ commands ∷ []) ≡ fold length (replayed s groups) commands
 replayed-more s [] commands = refl
 replayed-more s (first ∷ groups) commands = replayed-more (fold length s first) groups commands
+
+pub stored-more : (s : State Stored) (groups : List Commands) (commands : Commands)
+    → stored_after s (groups ++ commands ∷ []) ≡ fold stored_length (stored_after s groups) (stored_commands commands)
+stored-more s [] commands = refl
+stored-more s (first ∷ groups) commands = stored-more (fold stored_length s (stored_commands first)) groups commands
 
 pub accepted-more : (s : State (List ℕ)) (groups : List Commands) (commands : Commands) → AreAccepted s groups → AllAccepted length (replayed s groups) commands → AreAccepted s (groups ++ commands ∷ [])
 accepted-more s [] commands before last = (last, tt)

@@ -1,5 +1,5 @@
-//! Laws of what an image stands for, each the contract of a function without a body. The contracts of `rly_journal` cite the
-//! same definitions.
+//! Laws of what an image stands for, each the contract of a function without a body. The contracts
+//! of `rly_journal` cite the same definitions.
 
 ghost use Rattle.std.specs.Prelude.{◌≡◌, ◌+◌, ◌<◌, ℕ, List};
 ghost use Rattle.rly_core.specs.declared.params.Geometry.{Geometry as AGeometry};

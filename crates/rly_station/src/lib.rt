@@ -1,10 +1,10 @@
 //! The posts of a station: each worker of a plan with its link over UDP and its turns.
 //!
-//! `posts_of` makes them (`specs/Duties.antt` says what each has to do). A link is a socket, sealed
-//! where the plan names a key for it, which keeps what comes ahead of a gap and tells of sends that
-//! fail and of packets without a right tag. Turns hand out the moments of the system's clocks. The
-//! plan and its keys are read from files. Sockets and clocks are called here alone. Callers:
-//! `rly_commands`, `rly_serve` and `rly_daemon`.
+//! `posts_of` makes them (`specs/Duties.antt` says what each has to do). A link is a socket,
+//! sealed where the plan names a key for it, which keeps what comes ahead of a gap and tells of
+//! sends that fail and of packets without a right tag. Turns hand out the moments of the system's
+//! clocks. The plan and its keys are read from files. Sockets and clocks are called here alone.
+//! Callers: `rly_commands`, `rly_serve` and `rly_daemon`.
 #![tactic(auto)]
 
 mod address_fault;

@@ -1,5 +1,5 @@
-//! The link to a neighbour as a station has it: it tells of sends that fail, and of packets without a right tag, and keeps what comes
-//! ahead of a gap.
+//! The link to a neighbour as a station has it: it tells of sends that fail, and of packets
+//! without a right tag, and keeps what comes ahead of a gap.
 
 ghost use Rattle.std.specs.Prelude.{◌≡◌, ◌↔◌, IsTrue, IsNone};
 ghost use Rattle.rly_ahead.specs.AheadLink.{new_ahead};

@@ -4,7 +4,8 @@
 //! (`docs/PROTOCOL.md`, "Sealed packets"). `hmac_sha256` meets RFC 2104 (`specs/Hmac.antt`), over
 //! the toolchain's `sha2`. `Key` is read from a file of one or two lines (`specs/Keys.antt`), and
 //! seals and unseals packets as `specs/Seal.antt` says. What tags are relied on for, that nobody
-//! makes one without the key, is proved nowhere. Callers: `rly_seal`, and the laws of `rly_keyed`.
+//! makes one without the key, is proved nowhere. Callers: `rly_seal`, `rly_station`, which reads
+//! keys, `rly_commands`, which makes one, and the laws of `rly_keyed`.
 #![tactic(auto)]
 
 mod hmac;

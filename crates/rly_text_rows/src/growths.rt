@@ -1,6 +1,6 @@
-//! `sim` and `play` where one growth of memory is refused (`bench/scarce_memory`). What was written is a prefix of the replies,
-//! and the end says that memory was refused; or, in a play, all lines are answered, and one is told so. Where none was refused,
-//! the replies are whole.
+//! `sim` and `play` where one growth of memory is refused (`bench/scarce_memory`). What was
+//! written is a prefix of the replies, and the end says that memory was refused; or, in a play,
+//! all lines are answered, and one is told so. Where none was refused, the replies are whole.
 use crate::playing::{SMALL, formatted, geometry_of};
 use crate::rows::replies;
 use rly_disk::MemDisk;

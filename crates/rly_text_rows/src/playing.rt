@@ -1,4 +1,5 @@
-//! Plays on devices in memory: how many calls and syncs of the device they make, and a sync that fails.
+//! Plays on devices in memory: how many calls and syncs of the device they make, and a sync that
+//! fails.
 
 use crate::rows::replies;
 use rly_core::{Geometry, Params};

@@ -1,4 +1,5 @@
-//! Relays in threads: of many workers and of one, with full batches, over journals that were used, are wide, or broke.
+//! Relays in threads: of many workers and of one, with full batches, over journals that were used,
+//! are wide, or broke.
 
 ghost use Rattle.std.specs.Prelude.{None, false};
 

@@ -1,4 +1,5 @@
-//! Two receivers of one peer, which hear copies of one datagram, over a flusher whose device fails.
+//! Two receivers of one peer, which hear copies of one datagram, over a flusher whose device
+//! fails.
 
 ghost use Rattle.std.specs.Prelude.{None};
 

@@ -1,8 +1,10 @@
-//! A link of which one call fails, for each of its calls in 64 turns. It counts its receives and sends together, from 1.
+//! A link of which one call fails, for each of its calls in 64 turns. It counts its receives and
+//! sends together, from 1.
 //!
-//! What is expected follows from docs/PROTOCOL.md. A worker asks its link until it gives nothing, so 64 turns in silence are 64
-//! receives. What a worker sends in a turn comes after that turn's receives. A receive that fails is as nothing heard. A packet
-//! whose send fails is lost, and the worker goes on as if it had gone out.
+//! What is expected follows from docs/PROTOCOL.md. A worker asks its link until it gives nothing,
+//! so 64 turns in silence are 64 receives. What a worker sends in a turn comes after that turn's
+//! receives. A receive that fails is as nothing heard. A packet whose send fails is lost, and the
+//! worker goes on as if it had gone out.
 
 use crate::workers::{MemEnds, link_with, plan, spool_with, take_for, with_window};
 use crate::{receivers, senders};

@@ -1,6 +1,8 @@
-//! A datagram with a limit, and one of the greatest length, through a receiving worker and then a sending one.
+//! A datagram with a limit, and one of the greatest length, through a receiving worker and then a
+//! sending one.
 //!
-//! The bytes follow from docs/PROTOCOL.md, "Messages": those that go out are those that came, but for the two stations.
+//! The bytes follow from docs/PROTOCOL.md, "Messages": those that go out are those that came, but
+//! for the two stations.
 
 use crate::receivers::{CUSTODY, receive};
 use crate::workers::{MemEnds, expect_sent, link_with, plan};

@@ -1,4 +1,5 @@
-//! The link and the desk in memory on which tests of workers stand: they don't give up early either.
+//! The link and the desk in memory on which tests of workers stand: they don't give up early
+//! either.
 
 use crate::receivers::empty;
 use crate::workers::give;

@@ -1,12 +1,13 @@
 //! The workers: a receiving one for each upstream neighbour and a sending one for each next hop.
-//! In each turn a worker hears what its link has, up to 64 packets: a receiving one with a core for
-//! each, a sending one with one core. It makes the calls that this leads to together, and sends what
-//! the cores name on the answers. A sending one keeps its hop's pace: when it sends again, and how
-//! much (`specs/Pacing.antt`).
+//! In each turn a worker hears what its link has, up to 64 packets: a receiving one with a core
+//! for each, a sending one with one core. It makes the calls that this leads to together, and
+//! sends what the cores name on the answers. A sending one keeps its hop's pace: when it sends
+//! again, and how much (`specs/Pacing.antt`).
 //!
 //! `receiver_run` and `sender_run` take any `Link`, `Desk` and `Turn`. If these tell what they
 //! gave and were given, a worker asks and sends what `specs/Intake.antt` and `specs/Outlet.antt`
-//! make of it, and nothing else. Caller: `rly_threads`, which has a thread for each.
+//! make of it, and nothing else. Callers: `rly_threads`, which has a thread for each, and
+//! `rly_reporter`, which asks at a `Desk` too.
 #![tactic(auto)]
 
 mod desk;

@@ -1,12 +1,14 @@
-//! Whole relays, as definitions: what holds of one after every list of events, with any call of its
-//! device failing and the relay stopped at any moment, and of two that hand datagrams on over a bad
-//! link.
+//! Whole relays, as definitions: what holds of one after every list of events, with any call of
+//! its device failing and the relay stopped at any moment, and of two that hand datagrams on over
+//! a bad link.
 //!
-//! `specs/RelayWorld.antt` has the world of one relay, `specs/RelaySteps.antt` what may happen next,
-//! and `law_relay` what is true after every list of events. `specs/PairWorld.antt` has two relays with
-//! all packets between them, and what each event makes of them; `law_two` is their law. The laws stand
-//! on functions without a body, which need no memory, call nothing and take no handle. The contracts of
-//! the journal, of the machine and of the two protocol cores cite the same definitions.
+//! `specs/RelayWorld.antt` has the world of one relay, `specs/RelaySteps.antt` what may happen
+//! next, and `law_relay` what is true after every list of events. `specs/PairWorld.antt` has two
+//! relays with all packets between them, and what each event makes of them; `law_two` is their
+//! law. The laws stand on functions without a body, which need no memory, call nothing and take no
+//! handle. The contracts of the journal, of the machine and of the two protocol cores cite the
+//! same definitions. Caller: `rly_keyed`; the contracts of `rly_relay` and `rly_pair` cite its
+//! worlds.
 #![tactic(auto)]
 
 mod pair_law;

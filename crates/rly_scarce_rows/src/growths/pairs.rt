@@ -1,4 +1,5 @@
-//! Two relays, step by step. A step that is refused memory has done nothing, and is made when it is made again.
+//! Two relays, step by step. A step that is refused memory has done nothing, and is made when it
+//! is made again.
 
 use rly_core::{Geometry, HopId, Params, PeerId, Refusal};
 use rly_disk::{After, Torn};
