@@ -1,147 +1,110 @@
 //! The flusher's rounds, one by one: how many a number of calls take, and what a round does once
 //! the journal broke.
 
-use crate::callers::{
-    Asks, Caller, Heard, QUESTION, TAKE, Told, all_asking, both, expect_answered, told_all,
-};
-use crate::devices::{failing, new_journal};
-use crate::served::{flusher_over, round, run, served};
-use rly_disk::{After, Disk, FaultDisk, MemDisk};
-use rly_flush::Flusher;
+use crate::callers::{Caller, QUESTION, TAKE, Told};
+use crate::devices::{DEVICE, failing, new_journal};
+use crate::served::{AT_ONCE, Service, run, run_failing, served};
+use rly_disk::{FaultDisk, MemDisk};
 use rly_journal::Journal;
-use rly_workers::Desk;
 use std::alloc::Global;
 use std::process::Abort;
 use std::sync::Wait;
-use std::thread;
 use std::thread::Threads;
-use std::time::{Clock, Duration};
+use std::time::Clock;
 
-/// So many rounds a flusher makes until it finds no seat.
-fn rounds_to_end<R: Wait, D: Disk + Drop>(rt: &R, flusher: &mut Flusher<D>) -> u64 {
-    let mut rounds = 0u64;
-    for _round in 0..=64 {
-        if !round(rt, flusher) {
-            break;
-        }
-        rounds = rounds.saturating_add(1);
-    }
-    rounds
-}
+/// The rounds are counted.
+const ONE_BY_ONE: Service<'static> = Service {
+    rounds: 65,
+    ..AT_ONCE
+};
 
-/// So many rounds a flusher makes that begins after so many milliseconds, in which it answers all that these callers ask at its seats.
-fn rounds_for<
-    R: Abort + Threads + Wait + Clock + Copy + Send + 'static,
-    K: Desk + Send + Drop + 'static,
-    D: Disk + Drop,
->(
-    rt: R,
-    alloc: Global,
-    (seats, flusher): (Vec<K>, &mut Flusher<D>),
-    callers: &[Caller],
-    begins_after: u64,
-) -> u64 {
-    let all = all_asking(rt, alloc, seats, callers);
-    thread::sleep(&rt, Duration::from_millis(begins_after));
-    let rounds = rounds_to_end(&rt, flusher);
-    expect_answered(&rt, callers, told_all(&rt, alloc, all).as_slice());
-    rounds
-}
+/// 64 questions in one call.
+const BATCH: Caller = Caller {
+    batch: 64,
+    ..QUESTION
+};
 
-/// The same for a flusher of a new journal.
-fn rounds_of<R: Abort + Threads + Wait + Clock + Copy + Send + 'static>(
-    rt: R,
-    alloc: Global,
-    callers: &[Caller],
-    begins_after: u64,
-) -> u64 {
-    let count = callers.len();
-    let (seats, mut flusher) = flusher_over(&rt, alloc, new_journal(&rt, alloc), count, count);
-    rounds_for(rt, alloc, (seats, &mut flusher), callers, begins_after)
-}
+/// 64 questions, in 64 calls, in three, and in one.
+const WAITING: [Service<'static>; 3] = [
+    Service {
+        capacity: 64,
+        callers: &[Caller { batch: 1, ..BATCH }; 64],
+        ..ONE_BY_ONE
+    },
+    Service {
+        capacity: 3,
+        callers: &[
+            Caller { batch: 31, ..BATCH },
+            Caller { batch: 32, ..BATCH },
+            Caller { batch: 1, ..BATCH },
+        ],
+        ..ONE_BY_ONE
+    },
+    Service {
+        capacity: 1,
+        callers: &[BATCH],
+        ..ONE_BY_ONE
+    },
+];
 
-/// Checks that batches which wait together share a round. The flusher begins later each time, since on a busy machine a thread
-/// begins late too.
+/// Checks that 64 questions that wait together are answered in one round. The flusher begins later each time, since on a busy machine
+/// a thread begins late too.
 fn expect_one_round<R: Abort + Threads + Wait + Clock + Copy + Send + 'static>(
     rt: R,
     alloc: Global,
-    callers: &[Caller],
+    service: &Service,
 ) {
-    let mut begins_after = 10u64;
-    let mut is_one = false;
+    let mut pause = 10u64;
     for _run in 0..10 {
-        is_one = is_one || rounds_of(rt, alloc, callers, begins_after) == 1;
-        begins_after = begins_after.saturating_mul(2);
+        let journal = new_journal(&rt, alloc, &DEVICE);
+        let left = run(rt, alloc, journal, &Service { pause, ..*service });
+        expect!(rt; left.heard.answered == 64);
+        if left.rounds == 1 {
+            return;
+        }
+        pause = pause.saturating_mul(2);
     }
-    expect!(rt; is_one);
+    panic!(rt; "no run took one round")
 }
 
-/// A batch of so many questions.
-fn batch(size: u64) -> Caller {
-    Caller::Batches(Asks::Windows, 1, size)
-}
-
-/// Checks it of all batches that wait, up to 64 of one ask; of batches that hold 64 asks together; and of one that does.
-fn expect_rounds<R: Abort + Threads + Wait + Clock + Copy + Send + 'static>(rt: R, alloc: Global) {
-    expect_one_round(rt, alloc, &[batch(1); 64]);
-    expect_one_round(rt, alloc, &[batch(31), batch(32), batch(1)]);
-    expect_one_round(rt, alloc, &[batch(64)]);
+/// Checks it of each of these.
+fn expect_rounds<R: Abort + Threads + Wait + Clock + Copy + Send + 'static>(
+    rt: R,
+    alloc: Global,
+    services: &[Service],
+) {
+    for service in services {
+        expect_one_round(rt, alloc, service);
+    }
 }
 
 /// A round takes all batches that wait, up to 64 of one ask, or batches that hold 64 asks together, or one that does.
 #[test]
 fn a_round_takes_all_that_wait(rt: HostRuntime) {
-    expect_rounds(rt, rt.alloc());
+    expect_rounds(rt, rt.alloc(), &WAITING);
 }
 
 /// Two takes of one peer, one after the other.
-const TWO_TAKES: Caller = Caller::Alone(Asks::Takes(1), 2);
+const TWO_TAKES: Service<'static> = Service {
+    capacity: 1,
+    callers: &[Caller { calls: 2, ..TAKE }],
+    ..ONE_BY_ONE
+};
 
-/// What a caller is told whose two takes a flusher answers in a round each, after which no seat is left.
-fn told_in_rounds<
-    R: Abort + Threads + Wait + Copy + Send + 'static,
-    K: Desk + Send + Drop + 'static,
-    D: Disk + Drop,
->(rt: R, alloc: Global, seats: Vec<K>, flusher: &mut Flusher<D>) -> Heard {
-    let all = all_asking(rt, alloc, seats, &[TWO_TAKES]);
-    expect!(rt; round(&rt, flusher));
-    expect!(rt; round(&rt, flusher));
-    let told = told_all(&rt, alloc, all);
-    expect!(rt; !round(&rt, flusher));
-    *told.first().expect(&rt, "a caller")
-}
-
-/// What it is told over this journal.
-fn told_over<R: Abort + Threads + Wait + Copy + Send + 'static, D: Disk + Drop>(
+/// In how many runs, on a device that stops at one call after the other, the first round broke the journal, before one in which it
+/// didn't.
+fn broken_rounds<R: Abort + Threads + Wait + Clock + Copy + Send + 'static>(
     rt: R,
     alloc: Global,
-    journal: Journal<D>,
-) -> Heard {
-    let (seats, mut flusher) = flusher_over(&rt, alloc, journal, 1, 1);
-    told_in_rounds(rt, alloc, seats, &mut flusher)
-}
-
-/// What it is told over a device whose call of this number fails, and all after it. None where no journal opens on it.
-fn told_at<R: Abort + Threads + Wait + Copy + Send + 'static>(
-    rt: R,
-    alloc: Global,
-    fails_at: u64,
-) -> Option<Heard> {
-    match failing(&rt, alloc, fails_at, After::Stops) {
-        Some(journal) => Some(told_over(rt, alloc, journal)),
-        None => None,
-    }
-}
-
-/// In how many runs the first round broke the journal, before one in which it didn't.
-fn broken_rounds<R: Abort + Threads + Wait + Copy + Send + 'static>(rt: R, alloc: Global) -> u64 {
+) -> u64 {
     let mut broken = 0u64;
     for fails_at in 1..100 {
-        if let Some(heard) = told_at(rt, alloc, fails_at) {
-            if matches!(heard.first, Told::Taken(_)) {
+        if let Some(left) = run_failing(rt, alloc, fails_at, &TWO_TAKES) {
+            expect!(rt; left.rounds == 2);
+            if left.heard.first == Told::Taken(1) {
                 return broken;
             }
-            expect!(rt; matches!((heard.first, heard.last), (Told::Unsure, Told::Broken)));
+            expect!(rt; left.heard.first == Told::Unsure && left.heard.last == Told::Broken);
             broken = broken.saturating_add(1);
         }
     }
@@ -156,46 +119,65 @@ fn a_round_of_a_broken_journal_answers(rt: HostRuntime) {
     expect!(rt; broken_rounds(rt, rt.alloc()) == 4);
 }
 
-/// The journal that a flusher leaves after a take at its seat, and whether it broke.
-fn after_a_take<R: Abort + Threads + Wait + Copy + Send + 'static, D: Disk + Drop>(
+/// A take.
+const ONE_TAKE: Service<'static> = Service {
+    capacity: 1,
+    callers: &[TAKE],
+    ..AT_ONCE
+};
+
+/// The journal that a flusher leaves after a take, if that broke it.
+fn broken_by<R: Abort + Threads + Wait + Clock + Copy + Send + 'static>(
     rt: R,
     alloc: Global,
-    journal: Journal<D>,
-) -> (bool, Journal<D>) {
-    let (seats, flusher) = flusher_over(&rt, alloc, journal, 1, 1);
-    let all = all_asking(rt, alloc, seats, &[TAKE]);
-    let finished = served(&rt, flusher);
-    let _told = told_all(&rt, alloc, all);
-    (finished.broken, finished.journal)
+    journal: Journal<FaultDisk<MemDisk>>,
+) -> Option<Journal<FaultDisk<MemDisk>>> {
+    let (finished, _heard, _rounds) = served(rt, alloc, journal, &ONE_TAKE);
+    if finished.broken {
+        Some(finished.journal)
+    } else {
+        None
+    }
 }
 
 /// A journal that broke in its first round.
-pub(super) fn broken_journal<R: Abort + Threads + Wait + Copy + Send + 'static>(
+fn broken_journal<R: Abort + Threads + Wait + Clock + Copy + Send + 'static>(
     rt: R,
     alloc: Global,
 ) -> Journal<FaultDisk<MemDisk>> {
     for fails_at in 1..100 {
-        if let Some(journal) = failing(&rt, alloc, fails_at, After::Stops) {
-            let (is_broken, left) = after_a_take(rt, alloc, journal);
-            if is_broken {
-                return left;
+        if let Some(journal) = failing(&rt, alloc, fails_at) {
+            if let Some(broken) = broken_by(rt, alloc, journal) {
+                return broken;
             }
         }
     }
     panic!(rt; "no journal broke")
 }
 
-/// What became of two questions at the seats of a flusher over a broken journal, which begins after so many milliseconds. Its end of
-/// the lines is kept until both are told.
+/// Two questions, one at each seat.
+const TWO_SEATS: Service<'static> = Service {
+    capacity: 2,
+    callers: &[QUESTION; 2],
+    ..AT_ONCE
+};
+
+/// What became of the question that wasn't answered, of two at the seats of a flusher over a broken journal that begins after so many
+/// milliseconds.
 fn told_of_the_end<R: Abort + Threads + Wait + Clock + Copy + Send + 'static>(
     rt: R,
     alloc: Global,
-    begins_after: u64,
-) -> (Told, Told) {
+    pause: u64,
+) -> Told {
     let journal = broken_journal(rt, alloc);
-    let (left, told) = run(rt, alloc, journal, &[QUESTION; 2], (2, begins_after));
-    expect!(rt; left.broken);
-    both(&rt, told.as_slice())
+    let left = run(rt, alloc, journal, &Service { pause, ..TWO_SEATS });
+    expect!(rt; left.broken && left.heard.answered == 1);
+    if left.heard.first == Told::Broken {
+        left.heard.last
+    } else {
+        expect!(rt; left.heard.last == Told::Broken);
+        left.heard.first
+    }
 }
 
 /// Begins the flusher later each time, until both wait.
@@ -203,14 +185,14 @@ fn expect_one_lost<R: Abort + Threads + Wait + Clock + Copy + Send + 'static>(
     rt: R,
     alloc: Global,
 ) {
-    let mut begins_after = 10u64;
+    let mut pause = 10u64;
     for _run in 0..10 {
-        match told_of_the_end(rt, alloc, begins_after) {
-            (Told::Broken, Told::Lost) | (Told::Lost, Told::Broken) => return,
-            (Told::Broken, Told::HandedBack) | (Told::HandedBack, Told::Broken) => {}
-            _ => panic!(rt; "one is answered, and the other told of the end"),
+        let told = told_of_the_end(rt, alloc, pause);
+        if told == Told::Lost {
+            return;
         }
-        begins_after = begins_after.saturating_mul(2);
+        expect!(rt; told == Told::HandedBack);
+        pause = pause.saturating_mul(2);
     }
     panic!(rt; "in each run the second came too late")
 }

@@ -1,9 +1,7 @@
-//! A flusher and the seats that it answers, and what it leaves.
-//!
-//! What these functions call promises much. They promise nothing, so that the proof of a test
-//! that calls them stays short.
+//! A flusher and the callers that it serves, and what it leaves.
 
-use crate::callers::{Caller, Heard, all_asking, told_all};
+use crate::callers::{Asking, Caller, Heard, asking, told_all};
+use crate::devices::failing;
 use rly_core::{HopId, PeerId};
 use rly_disk::Disk;
 use rly_flush::{Finished, Flusher};
@@ -14,65 +12,159 @@ use std::alloc::Global;
 use std::process::Abort;
 use std::sync::Wait;
 use std::thread;
-use std::thread::{JoinHandle, Threads};
+use std::thread::Threads;
 use std::time::{Clock, Duration};
 
+/// Callers at the seats of a line, and how a flusher serves them.
+#[derive(Clone, Copy)]
+pub(super) struct Service<'a> {
+    /// So many calls the line holds.
+    pub(super) capacity: u16,
+    /// Each is at a seat of its own.
+    pub(super) callers: &'a [Caller],
+    /// So many seats more are gone, and the flusher is told to forget them.
+    pub(super) forgotten: usize,
+    /// So many rounds the flusher makes after each caller began, before the next one does.
+    pub(super) rounds_each: u64,
+    /// So many milliseconds pass once all began.
+    pub(super) pause: u64,
+    /// So many rounds at most it makes one by one then, until it finds no seat. After that it serves.
+    pub(super) rounds: u64,
+}
+
+/// Nobody at a line, whom a flusher serves at once.
+pub(super) const AT_ONCE: Service<'static> = Service {
+    capacity: 256,
+    callers: &[],
+    forgotten: 0,
+    rounds_each: 0,
+    pause: 0,
+    rounds: 0,
+};
+
+/// What a flusher left.
+#[derive(Clone, Copy)]
+pub(super) struct Left {
+    /// What its callers were told.
+    pub(super) heard: Heard,
+    /// How many rounds it made one by one, once all had begun.
+    pub(super) rounds: u64,
+    /// Whether its journal is broken.
+    pub(super) broken: bool,
+    /// How many commands the journal made durable, and its window.
+    pub(super) position: u64,
+    pub(super) window: u64,
+    /// How many datagrams hop 1 has taken, and the last numbers of the first four peers. The greatest number: it doesn't say.
+    pub(super) taken: u64,
+    pub(super) lasts: [u64; 4],
+}
+
 /// A flusher over a journal, and so many seats at a line that holds so many calls.
-pub(super) fn flusher_over<R: Abort, D: Disk + Drop>(
+fn flusher_over<R: Abort, D: Disk + Drop>(
     rt: &R,
     alloc: Global,
     journal: Journal<D>,
-    capacity: usize,
+    capacity: u16,
     seats: usize,
 ) -> (Vec<Seat>, Flusher<D>) {
     if capacity == 0 || capacity > 256 || seats == 0 || seats > 256 {
         panic!(rt; "1 to 256 seats, and as many calls");
     }
-    let (seats, line) = make(alloc, capacity as u16, seats as u16)
+    let (seats, line) = make(alloc, capacity, seats as u16)
         .ok()
         .expect(rt, "memory");
     let flusher = Flusher::new(alloc, journal, line).ok().expect(rt, "memory");
     (seats, flusher)
 }
 
-/// Whether a flusher made a round.
-pub(super) fn round<R: Wait, D: Disk + Drop>(rt: &R, flusher: &mut Flusher<D>) -> bool {
-    flusher.round(rt)
+/// So many rounds a flusher makes, up to a number, until it finds no seat.
+fn rounds_up_to<R: Wait, D: Disk + Drop>(rt: &R, flusher: &mut Flusher<D>, most: u64) -> u64 {
+    let mut rounds = 0u64;
+    for _round in 0..most {
+        if !flusher.round(rt) {
+            break;
+        }
+        rounds = rounds.saturating_add(1);
+    }
+    rounds
 }
 
-/// What a flusher leaves once it served its seats.
-pub(super) fn served<R: Wait, D: Disk + Drop>(rt: &R, flusher: Flusher<D>) -> Finished<D> {
-    flusher.serve(rt)
+/// Callers, each in a thread of its own.
+fn all_asking<R: Abort + Threads + Wait + Copy + Send + 'static, D: Disk + Drop>(
+    rt: R,
+    alloc: Global,
+    seats: Vec<Seat>,
+    flusher: &mut Flusher<D>,
+    service: &Service,
+) -> Vec<Asking> {
+    let mut all = Vec::new(alloc);
+    for (seat, caller) in seats.into_iter().zip(service.callers) {
+        all.push(asking(rt, alloc, seat, *caller))
+            .expect(&rt, "memory");
+        let rounds = rounds_up_to(&rt, flusher, service.rounds_each);
+        expect!(rt; rounds == service.rounds_each);
+    }
+    all
 }
 
-/// What a flusher left: whether its journal is broken, how many commands that made durable, its window, how many datagrams hop 1 has
-/// taken, and the last numbers of the first four peers.
-#[derive(Clone, Copy)]
-pub(super) struct Left {
-    pub(super) broken: bool,
-    pub(super) position: u64,
-    pub(super) window: u64,
-    pub(super) taken: Option<u64>,
-    pub(super) lasts: [Option<u64>; 4],
+/// Callers that began, and so many rounds of their flusher before it serves.
+fn begun<R: Abort + Threads + Wait + Clock + Copy + Send + 'static, D: Disk + Drop>(
+    rt: R,
+    alloc: Global,
+    seats: Vec<Seat>,
+    flusher: &mut Flusher<D>,
+    service: &Service,
+) -> (Vec<Asking>, u64) {
+    let all = all_asking(rt, alloc, seats, flusher, service);
+    flusher.forget(service.forgotten);
+    thread::sleep(&rt, Duration::from_millis(service.pause));
+    (all, rounds_up_to(&rt, flusher, service.rounds))
+}
+
+/// A flusher serves these callers to their end, and keeps its end of the lines until they were all told.
+fn ended<R: Threads + Wait, D: Disk + Drop>(
+    rt: &R,
+    flusher: Flusher<D>,
+    all: Vec<Asking>,
+) -> (Finished<D>, Heard) {
+    let finished = flusher.serve(rt);
+    let heard = told_all(rt, all);
+    (finished, heard)
+}
+
+/// What a flusher over a journal leaves, what its callers were told, and how many rounds it made one by one.
+pub(super) fn served<R: Abort + Threads + Wait + Clock + Copy + Send + 'static, D: Disk + Drop>(
+    rt: R,
+    alloc: Global,
+    journal: Journal<D>,
+    service: &Service,
+) -> (Finished<D>, Heard, u64) {
+    let count = service.callers.len().saturating_add(service.forgotten);
+    let (seats, mut flusher) = flusher_over(&rt, alloc, journal, service.capacity, count);
+    let (all, rounds) = begun(rt, alloc, seats, &mut flusher, service);
+    let (finished, heard) = ended(&rt, flusher, all);
+    (finished, heard, rounds)
 }
 
 /// How many datagrams hop 1 has taken.
-fn taken_in<D: Disk>(journal: &Journal<D>) -> Option<u64> {
+fn taken_in<D: Disk>(journal: &Journal<D>) -> u64 {
     match &journal.ask_show(HopId(1)) {
-        Reply::Shown(status) => Some(status.taken),
-        _ => None,
+        Reply::Shown(status) => status.taken,
+        _ => u64::MAX,
     }
 }
 
 /// The last number of a peer.
-fn last_in<D: Disk>(journal: &Journal<D>, peer: u16) -> Option<u64> {
-    journal.last(PeerId(peer)).ok()
+fn last_in<D: Disk>(journal: &Journal<D>, peer: u16) -> u64 {
+    journal.last(PeerId(peer)).ok().unwrap_or(u64::MAX)
 }
 
-/// What a flusher left.
-fn left_in<D: Disk>(finished: &Finished<D>) -> Left {
+/// What is in what a flusher left.
+fn left_in<D: Disk>(finished: &Finished<D>, heard: Heard, rounds: u64) -> Left {
     let journal = &finished.journal;
     Left {
+        heard,
+        rounds,
         broken: finished.broken,
         position: journal.position(),
         window: journal.params().window,
@@ -86,40 +178,26 @@ fn left_in<D: Disk>(finished: &Finished<D>) -> Left {
     }
 }
 
-/// A flusher serves these callers to their end, and keeps its end of the lines until they were all told.
-pub(super) fn ended<R: Abort + Threads + Wait, D: Disk + Drop>(
-    rt: &R,
-    alloc: Global,
-    flusher: Flusher<D>,
-    all: Vec<JoinHandle<Heard>>,
-) -> (Left, Vec<Heard>) {
-    let finished = served(rt, flusher);
-    let told = told_all(rt, alloc, all);
-    (left_in(&finished), told)
-}
-
-/// A flusher over a journal serves so many callers, each at a seat of its own. Their line holds so many calls, and the flusher begins
-/// after so many milliseconds.
+/// What a flusher over a journal left, and what its callers were told.
 pub(super) fn run<R: Abort + Threads + Wait + Clock + Copy + Send + 'static, D: Disk + Drop>(
     rt: R,
     alloc: Global,
     journal: Journal<D>,
-    callers: &[Caller],
-    (capacity, begins_after): (usize, u64),
-) -> (Left, Vec<Heard>) {
-    let (seats, flusher) = flusher_over(&rt, alloc, journal, capacity, callers.len());
-    let all = all_asking(rt, alloc, seats, callers);
-    thread::sleep(&rt, Duration::from_millis(begins_after));
-    ended(&rt, alloc, flusher, all)
+    service: &Service,
+) -> Left {
+    let (finished, heard, rounds) = served(rt, alloc, journal, service);
+    left_in(&finished, heard, rounds)
 }
 
-/// A thread that does this.
-pub(super) fn spawned<
-    R: Abort + Threads,
-    F: FnOnce() -> T + Send + Drop + 'static,
-    T: Send + Drop + 'static,
->(rt: &R, f: F) -> JoinHandle<T>
-    requires { F.pre f }
-{
-    thread::spawn(rt, f).ok().expect(rt, "a thread")
+/// The same over a device that stops at its call of this number, if it opens.
+pub(super) fn run_failing<R: Abort + Threads + Wait + Clock + Copy + Send + 'static>(
+    rt: R,
+    alloc: Global,
+    fails_at: u64,
+    service: &Service,
+) -> Option<Left> {
+    match failing(&rt, alloc, fails_at) {
+        Some(journal) => Some(run(rt, alloc, journal, service)),
+        None => None,
+    }
 }
