@@ -1,24 +1,16 @@
 //! The greatest line, and a window of the longest datagrams: a bound of the code's own would hide
 //! there, as a refusal of memory.
-use crate::growths::workers::{MemEnds, ends_of, run};
-use rly_core::{HopId, Params, PeerId};
-use rly_line::make;
+use crate::growths::seats::expect_line;
+use crate::growths::workers::{Form, MemEnds, RECEIVING, Run, SENDING, ends_of, make_run};
+use rly_core::Params;
 use rly_machine::Machine;
-use rly_post::{MemLink, MemTurn, Worker};
 use std::alloc::Global;
 use std::process::Abort;
 use std::sync::Wait;
 
-/// Makes a line of 256 seats.
-fn expect_greatest_line<R: Abort>(rt: &R, alloc: Global) {
-    let (seats, _line) = make(alloc, 256, 256).expect(rt, "a line");
-    expect!(rt; seats.len() == 256);
-    expect!(rt; seats.last().map(|seat| seat.id().0) == Some(255));
-}
-
 #[test]
 fn the_greatest_line(rt: HostRuntime) {
-    expect_greatest_line(&rt, rt.alloc());
+    expect_line(&rt, rt.alloc(), 256, 256);
 }
 
 /// A spool for the longest payloads, of which 64 may be in flight.
@@ -28,63 +20,50 @@ const LONG: Params = Params {
     ..Params::DEFAULT
 };
 
-/// The longest message between two stations: Data of this number with a limit of 5,000, 8,192 bytes to destination 12.
-fn longest(number: u8, from: u8, to: u8) -> [u8; 8_215] {
-    let mut packet = [number; 8_215];
-    packet[..25].copy_from_slice(
-        b"\x52\x4c\x01\x04\x00\x00\x00\x00\x00\x00\x00\x00\x00\x00\x00\x00\x00\x00\x00\x13\x88\x20\x00\x00\x0c",
-    );
-    packet[5] = from;
-    packet[7] = to;
-    packet[15] = number;
-    packet
-}
+/// The longest messages: Data with a limit of 5,000, 8,192 bytes for destination 12, from station 3 to station 7, and on to station 9.
+const DATA: Form = (
+    b"\x52\x4c\x01\x04\x00\x03\x00\x07\x00\x00\x00\x00\x00\x00\x00\x00\x00\x00\x00\x13\x88\x20\x00\x00\x0c",
+    8_215,
+);
+
+const DATA_ON: Form = (
+    b"\x52\x4c\x01\x04\x00\x07\x00\x09\x00\x00\x00\x00\x00\x00\x00\x00\x00\x00\x00\x13\x88\x20\x00\x00\x0c",
+    8_215,
+);
 
 /// 64 of them come in one turn.
-fn window_of_them<R: Abort>(rt: &R, alloc: Global) -> Vec<Option<Vec<u8>>> {
-    let mut coming = Vec::new(alloc);
-    for number in 1..=64 {
-        let packet = longest(number, 3, 7).to_vec(alloc).expect(rt, "memory");
-        coming.push(Some(packet)).expect(rt, "memory");
-    }
-    coming.push(None).expect(rt, "memory");
-    coming
-}
+const TAKING_ALL: Run = Run {
+    comes: DATA,
+    script: &[(1, 1, 64)],
+    last: 64,
+    turns: (1_000, 1, 1),
+    ..RECEIVING
+};
 
-/// A receiver takes all of them in that turn.
-fn take_window<R: Abort + Wait>(rt: &R, alloc: Global, ends: &mut MemEnds) {
-    run(rt, alloc, Worker::Receiver(PeerId(1)), &LONG, ends);
-    expect!(rt; ends.link.delivered().len() == 1);
-    expect!(rt; ends.desk.machine().byte_count() == 524_288);
-}
-
-/// A sender at the same desk sends, in silence.
-fn send_window<R: Abort + Wait>(rt: &R, alloc: Global, ends: &mut MemEnds) {
-    ends.link = MemLink::new(alloc, Vec::new(alloc), 0);
-    ends.turn = MemTurn::new(1_010, 1, 20);
-    run(rt, alloc, Worker::Sender(HopId(1)), &LONG, ends);
-}
-
-/// Checks what it sent.
-fn expect_ten<R: Abort>(rt: &R, link: &MemLink) {
-    expect!(rt; link.delivered().len() == 10);
-    for (packet, number) in link.delivered().iter().zip(1..=10) {
-        expect!(rt; packet.as_slice() == longest(number, 7, 9).as_slice());
-    }
-}
-
-/// A window of the longest datagrams is handed over.
-fn hand_over_window<R: Abort + Wait>(rt: &R, alloc: Global) {
-    let machine = Machine::new(alloc, LONG).expect(rt, "memory");
-    let coming = window_of_them(rt, alloc);
-    let mut ends = ends_of(alloc, coming, machine, MemTurn::new(1_000, 1, 1));
-    take_window(rt, alloc, &mut ends);
-    send_window(rt, alloc, &mut ends);
-    expect_ten(rt, &ends.link);
-}
+/// They are sent in silence.
+const SENDING_ON: Run = Run {
+    script: &[],
+    sends: DATA_ON,
+    last: 10,
+    turns: (1_010, 1, 20),
+    ..SENDING
+};
 
 /// A window of the longest datagrams is taken in one turn. Ten of them go out at first, since none is acknowledged, each with its limit.
+fn expect_window<R: Abort + Wait>(rt: &R, alloc: Global, ends: &mut MemEnds) {
+    let (_, custody) = make_run(rt, alloc, ends, &TAKING_ALL);
+    expect!(rt; custody.as_slice() == [64].as_slice());
+    expect!(rt; ends.desk.machine().byte_count() == 524_288);
+    let (_, data) = make_run(rt, alloc, ends, &SENDING_ON);
+    expect!(rt; data.as_slice() == [1, 2, 3, 4, 5, 6, 7, 8, 9, 10].as_slice());
+}
+
+fn expect_long<R: Abort + Wait>(rt: &R, alloc: Global) {
+    let machine = Machine::new(alloc, LONG).expect(rt, "memory");
+    expect_window(rt, alloc, &mut ends_of(alloc, machine));
+}
+
 #[test]
 fn a_window_of_the_longest_datagrams(rt: HostRuntime) {
-    hand_over_window(&rt, rt.alloc());
+    expect_long(&rt, rt.alloc());
 }

@@ -1,10 +1,11 @@
 //! Two relays, step by step. A step that is refused memory has done nothing, and is made when it
 //! is made again.
 
-use rly_core::{Geometry, HopId, Params, PeerId, Refusal};
+use crate::growths::take;
+use rly_core::{Geometry, HopId, Params, Refusal};
 use rly_disk::{After, Torn};
 use rly_hop::Message;
-use rly_machine::{Ask, Command, Payload};
+use rly_machine::Payload;
 use rly_pair::{Fault, Pair, Step};
 use rly_scarce::{before, was_refused};
 use std::alloc::Global;
@@ -59,24 +60,6 @@ fn make_step(rt: &impl Abort, alloc: Global, pair: &mut Pair, step: Step) {
     pair.step(alloc, step).ok().expect(rt, "a step");
 }
 
-/// The upper takes one datagram.
-fn take_one(rt: &impl Abort, alloc: Global, pair: &mut Pair) {
-    let payload = vec![in alloc; 0x41u8; 1_200].expect(rt, "memory");
-    let take = Command::Take {
-        peer: PeerId(1),
-        number: 1,
-        hop: HopId(1),
-        stamp: 0,
-        limit: 0,
-        payload: Payload::new(payload),
-    };
-    let step = Step::UpperServes {
-        ask: Ask::Command(take),
-        is_answered: true,
-    };
-    make_step(rt, alloc, pair, step);
-}
-
 /// Makes a step, and makes it again where memory was refused to it. Says whether a growth was refused in a step that was made.
 fn is_starved(rt: &impl Abort, alloc: Global, pair: &mut Pair, index: usize) -> bool {
     let sent = pair.packets().len();
@@ -90,17 +73,19 @@ fn is_starved(rt: &impl Abort, alloc: Global, pair: &mut Pair, index: usize) -> 
     is_made && refused
 }
 
-/// Whether a packet is custody of the datagram.
-fn is_custody(message: &Message<Payload>) -> bool {
-    matches!(message, Message::Custody { last: 1, .. })
+/// Whether one of the packets is custody of the datagram.
+fn have_custody(packets: &[Message<Payload>]) -> bool {
+    for packet in packets {
+        if matches!(packet, Message::Custody { last: 1, .. }) {
+            return true;
+        }
+    }
+    false
 }
 
 /// Whether the packets are the Data and its custody, and no others.
 fn are_handed_over(packets: &[Message<Payload>]) -> bool {
-    match packets {
-        [Message::Data { number: 1, .. }, custody] => is_custody(custody),
-        _ => false,
-    }
+    matches!(packets, [Message::Data { number: 1, .. }, _]) && have_custody(packets)
 }
 
 /// Both crash, and the upper sends what it has.
@@ -128,9 +113,14 @@ fn hear_all(rt: &impl Abort, alloc: Global, pair: &mut Pair) {
     }
 }
 
-/// Where a growth was refused within a step that was made, its call was told so, and the datagram is handed over once both
-/// began anew.
+/// The upper takes one datagram. Where a growth was refused within a step that was made, its call was told so, and the datagram is
+/// handed over once both began anew.
 fn expect_handed_over(rt: &impl Abort, alloc: Global, pair: &mut Pair) {
+    let take = Step::UpperServes {
+        ask: take(rt, alloc, 1),
+        is_answered: true,
+    };
+    make_step(rt, alloc, pair, take);
     let mut starved = false;
     for index in 0..STEPS {
         starved |= is_starved(rt, alloc, pair, index);
@@ -138,32 +128,28 @@ fn expect_handed_over(rt: &impl Abort, alloc: Global, pair: &mut Pair) {
     expect!(rt; starved || are_handed_over(pair.packets()));
     begin_anew(rt, alloc, pair);
     hear_all(rt, alloc, pair);
-    expect!(rt; pair.packets().iter().any(is_custody));
+    expect!(rt; have_custody(pair.packets()));
 }
 
-#[test]
-fn steps_of_a_pair(rt: HostRuntime) {
-    let made = Pair::new(rt.alloc(), &SMALL, &SMALL);
-    let mut pair = made.ok().expect(&rt, "a pair");
-    take_one(&rt, rt.alloc(), &mut pair);
-    expect_handed_over(&rt, rt.alloc(), &mut pair);
-}
-
-/// Checks a new pair, or how it was refused.
-fn expect_made(rt: &impl Abort, made: &Result<Pair, Refusal>, refused: bool) {
+/// A new pair. Where it is refused, it is made again.
+fn new_pair(rt: &impl Abort, alloc: Global) -> Pair {
+    before(alloc).expect(rt, "memory");
+    let made = Pair::new(alloc, &SMALL, &SMALL);
+    let refused = was_refused(alloc);
     match made {
-        Ok(pair) => expect!(rt; pair.packets().is_empty()),
+        Ok(pair) => pair,
         Err(refusal) => {
-            expect!(rt; refused);
-            expect!(rt; matches!(refusal, Refusal::OutOfMemory | Refusal::Device));
+            expect!(rt; refused && matches!(refusal, Refusal::OutOfMemory | Refusal::Device));
+            Pair::new(alloc, &SMALL, &SMALL).ok().expect(rt, "a pair")
         }
     }
 }
 
+fn expect_pair(rt: &impl Abort, alloc: Global) {
+    expect_handed_over(rt, alloc, &mut new_pair(rt, alloc));
+}
+
 #[test]
-fn a_new_pair(rt: HostRuntime) {
-    before(rt.alloc()).expect(&rt, "memory");
-    let made = Pair::new(rt.alloc(), &SMALL, &SMALL);
-    let refused = was_refused(rt.alloc());
-    expect_made(&rt, &made, refused);
+fn a_pair_and_its_steps(rt: HostRuntime) {
+    expect_pair(&rt, rt.alloc());
 }

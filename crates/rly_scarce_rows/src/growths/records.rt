@@ -35,91 +35,62 @@ fn take<R: Abort>(rt: &R, alloc: Global) -> Command<Payload>
     }
 }
 
-fn release() -> Command<Payload>
-    ensures { IsRecordable MAX_PAYLOAD result }
-{
-    Command::Release {
-        hop: HopId(1),
-        number: 3,
-    }
-}
-
 /// Expects what was written to be whole, or, where a growth was refused, nothing.
 fn expect_written<R: Abort>(rt: &R, is_written: bool, refused: bool, out: &[u8], whole: &[u8]) {
     expect!(rt; refused || is_written);
-    expect!(rt; match is_written {
-        true => out == whole,
-        false => out.is_empty(),
-    });
+    expect!(rt; out == if is_written { whole } else { &[] });
 }
 
-/// Writes a record of a command.
-fn write_one<R: Abort>(rt: &R, alloc: Global) {
+/// Whether a command takes the one byte.
+fn is_the_take(command: Option<&Command<Payload>>) -> bool {
+    match command {
+        Some(Command::Take { payload, .. }) => payload.as_slice() == [0x41].as_slice(),
+        _ => false,
+    }
+}
+
+/// Writes a record of a command, and reads it.
+fn expect_record<R: Abort>(rt: &R, alloc: Global) {
     let mut out = Vec::new(alloc);
     let command = take(rt, alloc);
     before(alloc).expect(rt, "memory");
     let is_written = write_command(&command, &mut out).is_ok();
     expect_written(rt, is_written, was_refused(alloc), &out, &TAKE);
-}
-
-/// Writes a body of two commands.
-fn write_two<R: Abort>(rt: &R, alloc: Global) {
-    let mut out = Vec::new(alloc);
-    let commands = [take(rt, alloc), release()];
-    before(alloc).expect(rt, "memory");
-    let is_written = write_body(&commands, &mut out).is_ok();
-    expect_written(rt, is_written, was_refused(alloc), &out, &BODY);
-}
-
-#[test]
-fn writing_a_record(rt: HostRuntime) {
-    write_one(&rt, rt.alloc());
-}
-
-#[test]
-fn writing_a_body(rt: HostRuntime) {
-    write_two(&rt, rt.alloc());
-}
-
-/// Whether a command takes the one byte.
-fn is_the_take(command: &Command<Payload>) -> bool {
-    match command {
-        Command::Take { payload, .. } => payload.as_slice() == [0x41].as_slice(),
-        Command::Pick { .. } | Command::Release { .. } => false,
-    }
-}
-
-/// Reads a record of a command.
-fn read_one<R: Abort>(rt: &R, alloc: Global) {
     before(alloc).expect(rt, "memory");
     let told = read_command(alloc, &TAKE);
     let refused = was_refused(alloc);
     match told {
-        Ok((command, length)) => expect!(rt; length == 24 && is_the_take(&command)),
+        Ok((command, length)) => expect!(rt; length == 24 && is_the_take(Some(&command))),
         Err(fault) => expect!(rt; refused && fault == DecodeFault::OutOfMemory),
     }
 }
 
-#[test]
-fn reading_a_record(rt: HostRuntime) {
-    read_one(&rt, rt.alloc());
-}
-
-/// Reads a body of two commands.
-fn read_two<R: Abort>(rt: &R, alloc: Global) {
+/// Writes a body of two commands, and reads it.
+fn expect_body<R: Abort>(rt: &R, alloc: Global) {
+    let mut out = Vec::new(alloc);
+    let release = Command::Release {
+        hop: HopId(1),
+        number: 3,
+    };
+    let commands = [take(rt, alloc), release];
+    before(alloc).expect(rt, "memory");
+    let is_written = write_body(&commands, &mut out).is_ok();
+    expect_written(rt, is_written, was_refused(alloc), &out, &BODY);
     before(alloc).expect(rt, "memory");
     let told = read_body(alloc, &BODY);
     let refused = was_refused(alloc);
     match told {
-        Ok(commands) => {
-            expect!(rt; commands.len() == 2);
-            expect!(rt; matches!(commands.first(), Some(first) if is_the_take(first)));
-        }
+        Ok(commands) => expect!(rt; commands.len() == 2 && is_the_take(commands.first())),
         Err(fault) => expect!(rt; refused && fault == DecodeFault::OutOfMemory),
     }
 }
 
+fn expect_both<R: Abort>(rt: &R, alloc: Global) {
+    expect_record(rt, alloc);
+    expect_body(rt, alloc);
+}
+
 #[test]
-fn reading_a_body(rt: HostRuntime) {
-    read_two(&rt, rt.alloc());
+fn a_record_and_a_body(rt: HostRuntime) {
+    expect_both(&rt, rt.alloc());
 }

@@ -1,17 +1,19 @@
 //! Seats, their line, and the flusher that answers them.
 
-use rly_core::{Geometry, HopId, Params, PeerId, Refusal};
+use crate::growths::take;
+use rly_core::{Geometry, Params};
 use rly_disk::MemDisk;
 use rly_flush::Flusher;
 use rly_journal::Journal;
 use rly_line::{Seat, make};
-use rly_machine::{Ask, Call, Command, Payload, Reply, SeatId};
+use rly_machine::{Ask, Reply};
 use rly_scarce::{before, was_refused};
 use rly_segment::format;
 use std::alloc::Global;
 use std::process::Abort;
 use std::sync::Wait;
 use std::thread;
+use std::thread::Threads;
 
 /// Four peers, on two segments of the least length.
 const DEVICE: Geometry = Geometry {
@@ -32,57 +34,40 @@ const DEVICE: Geometry = Geometry {
 
 const SIZE: usize = 220_360;
 
-/// The journal of a new device.
-fn new_journal<R: Abort>(rt: &R, alloc: Global) -> Journal<MemDisk> {
-    let bytes = Vec::from_elem(alloc, 0u8, SIZE).expect(rt, "memory");
-    let mut disk = MemDisk::new(alloc, bytes);
-    expect!(rt; format(alloc, &mut disk, &DEVICE).is_ok());
-    opened(rt, alloc, disk)
-}
-
-/// The journal of a device that opens.
-fn opened<R: Abort>(rt: &R, alloc: Global, disk: MemDisk) -> Journal<MemDisk> {
-    Journal::open(alloc, disk).ok().expect(rt, "a journal")
-}
-
-/// Makes a line of two seats.
-fn expect_line<R: Abort>(rt: &R, alloc: Global) {
+/// Makes a line of so many seats, 1 to 256, which holds so many calls.
+pub(crate) fn expect_line<R: Abort>(rt: &R, alloc: Global, capacity: u16, count: u16) {
+    assert!(rt; 1 <= capacity && capacity <= 256 && 1 <= count && count <= 256);
     before(alloc).expect(rt, "memory");
-    let made = make(alloc, 4, 2);
+    let made = make(alloc, capacity, count);
     let refused = was_refused(alloc);
     match made {
-        Ok((seats, _line)) => expect!(rt; seats.len() == 2),
+        Ok((seats, _line)) => {
+            expect!(rt; seats.len() == count as usize);
+            expect!(rt; matches!(seats.last(), Some(last) if last.id().0 == count - 1));
+        }
         Err(_) => expect!(rt; refused),
     }
 }
 
 #[test]
-fn making_a_line(rt: HostRuntime) {
-    expect_line(&rt, rt.alloc());
+fn a_line(rt: HostRuntime) {
+    expect_line(&rt, rt.alloc(), 4, 2);
 }
 
-/// A journal takes one datagram.
-fn take_one<R: Abort>(rt: &R, alloc: Global, journal: &mut Journal<MemDisk>) {
-    let call = Call {
-        seat: SeatId(0),
-        number: 0,
-        ask: take(rt, alloc, 1),
-    };
-    let mut calls = vec![in alloc; call].ok().expect(rt, "memory");
-    let mut answers = Vec::new(alloc);
-    assert!(rt; calls.len() == 1);
-    journal
-        .round(alloc, &mut calls, &mut answers)
-        .expect(rt, "memory");
+/// A new device.
+fn device<R: Abort>(rt: &R, alloc: Global) -> MemDisk {
+    let bytes = Vec::from_elem(alloc, 0u8, SIZE).expect(rt, "memory");
+    let mut disk = MemDisk::new(alloc, bytes);
+    expect!(rt; format(alloc, &mut disk, &DEVICE).is_ok());
+    disk
 }
 
-/// Two seats, and a flusher of a journal. Where it is refused, journal and line are handed back, and it is made of them.
-fn flusher_of<R: Abort>(
-    rt: &R,
-    alloc: Global,
-    journal: Journal<MemDisk>,
-) -> (Vec<Seat>, Flusher<MemDisk>) {
-    let (seats, line) = make(alloc, 4, 2).expect(rt, "a line");
+/// A seat, and the flusher of a device's journal that answers it. Where it is refused, journal and line are handed back, and it is made of
+/// them.
+fn flusher_of<R: Abort>(rt: &R, alloc: Global, disk: MemDisk) -> (Seat, Flusher<MemDisk>) {
+    let journal = Journal::open(alloc, disk).ok().expect(rt, "a journal");
+    let (mut seats, line) = make(alloc, 4, 1).expect(rt, "a line");
+    let seat = seats.pop().expect(rt, "a seat");
     before(alloc).expect(rt, "memory");
     let told = Flusher::new(alloc, journal, line);
     let refused = was_refused(alloc);
@@ -93,136 +78,71 @@ fn flusher_of<R: Abort>(
             .ok()
             .expect(rt, "a flusher"),
     };
-    (seats, flusher)
-}
-
-/// A flusher serves what its journal took.
-fn serve_one<R: Abort + Wait>(rt: &R, alloc: Global) {
-    let mut journal = new_journal(rt, alloc);
-    take_one(rt, alloc, &mut journal);
-    let (seats, flusher) = flusher_of(rt, alloc, journal);
-    drop(seats);
-    let finished = flusher.serve(rt);
-    expect!(rt; !finished.broken && finished.journal.position() == 1);
-}
-
-#[test]
-fn a_new_flusher(rt: HostRuntime) {
-    serve_one(&rt, rt.alloc());
-}
-
-/// What a seat was told of its takes, up to the first that had no answer.
-#[derive(Drop)]
-struct Heard {
-    taken: u64,
-    starved: u64,
-    unsure: u64,
-    /// Whether a growth was refused, here or at the flusher.
-    refused: bool,
-}
-
-/// The take of the first datagram of a peer.
-fn take<R: Abort>(rt: &R, alloc: Global, peer: u16) -> Ask {
-    let payload = Vec::from_elem(alloc, 0x41, 1_200).expect(rt, "memory");
-    Ask::Command(Command::Take {
-        peer: PeerId(peer),
-        number: 1,
-        hop: HopId(1),
-        stamp: 0,
-        limit: 0,
-        payload: Payload::new(payload),
-    })
-}
-
-/// The takes of three peers.
-fn three_takes<R: Abort>(rt: &R, alloc: Global) -> Vec<Ask> {
-    let mut asks = Vec::new(alloc);
-    for peer in 1..=3 {
-        asks.push(take(rt, alloc, peer)).expect(rt, "memory");
-    }
-    asks
-}
-
-/// Asks, and counts the answer. Says whether there was one.
-fn is_answered<R: Abort + Wait>(rt: &R, seat: &mut Seat, heard: &mut Heard, ask: Ask) -> bool {
-    match seat.call(rt, ask) {
-        Ok(answer) => {
-            hear(rt, heard, &answer.reply);
-            true
-        }
-        Err(_) => false,
-    }
-}
-
-/// Asks these one after the other, up to the first that has no answer.
-fn ask_all<R: Abort + Wait>(rt: &R, seat: &mut Seat, heard: &mut Heard, asks: Vec<Ask>) {
-    for ask in asks {
-        if !is_answered(rt, seat, heard, ask) {
-            break;
-        }
-    }
-}
-
-/// Asks for a take of each of three peers, between the marks.
-fn ask_three<R: Abort + Wait>(rt: &R, alloc: Global, mut seat: Seat) -> Heard {
-    let asks = three_takes(rt, alloc);
-    let mut heard = Heard {
-        taken: 0,
-        starved: 0,
-        unsure: 0,
-        refused: false,
-    };
-    before(alloc).expect(rt, "memory");
-    ask_all(rt, &mut seat, &mut heard, asks);
-    heard.refused = was_refused(alloc);
-    heard
-}
-
-/// Counts an answer to a take, which each time is one of these.
-fn hear<R: Abort>(rt: &R, heard: &mut Heard, reply: &Reply) {
-    match reply {
-        Reply::Taken(id) => {
-            heard.taken = heard.taken.saturating_add(1);
-            expect!(rt; *id == heard.taken);
-        }
-        Reply::Refused(Refusal::OutOfMemory) => heard.starved = heard.starved.saturating_add(1),
-        Reply::Refused(Refusal::Unsure) => heard.unsure = heard.unsure.saturating_add(1),
-        _ => expect!(rt; false),
-    }
-}
-
-/// Checks what a seat was told, by the journal that its flusher left.
-fn expect_heard<R: Abort>(rt: &R, alloc: Global, heard: &Heard, journal: Journal<MemDisk>) {
-    let broken = journal.is_broken();
-    expect!(rt; heard.refused || heard.taken == 3);
-    expect!(rt; broken == (heard.unsure == 1));
-    expect!(rt; broken || heard.taken.saturating_add(heard.starved) == 3);
-    let position = opened(rt, alloc, journal.into_disk()).position();
-    let more = position.saturating_sub(heard.taken);
-    expect!(rt; position >= heard.taken);
-    expect!(rt; more == 0 || broken && more == 1);
-}
-
-/// A seat, and the flusher of a new journal that answers it.
-fn seat_of_flusher<R: Abort>(rt: &R, alloc: Global) -> (Seat, Flusher<MemDisk>) {
-    let (mut seats, line) = make(alloc, 4, 1).expect(rt, "a line");
-    let seat = seats.pop().expect(rt, "a seat");
-    let flusher = Flusher::new(alloc, new_journal(rt, alloc), line)
-        .ok()
-        .expect(rt, "a flusher");
     (seat, flusher)
+}
+
+/// What a seat is told of a take: the datagram's id, or 100 and the number of the refusal. Or there is no answer, which is 0.
+fn told<R: Wait>(rt: &R, seat: &mut Seat, ask: Ask) -> u64 {
+    match seat.call(rt, ask) {
+        Ok(answer) => match &answer.reply {
+            Reply::Taken(id) => *id,
+            Reply::Refused(refusal) => 100 + u64::from(refusal.number()),
+            _ => 99,
+        },
+        Err(_) => 0,
+    }
+}
+
+/// What a seat is told of the takes of three peers, and whether a growth was refused, here or at the flusher.
+fn ask_three<R: Abort + Wait>(rt: &R, alloc: Global, mut seat: Seat) -> ([u64; 3], bool) {
+    let (first, second, third) = (take(rt, alloc, 1), take(rt, alloc, 2), take(rt, alloc, 3));
+    before(alloc).expect(rt, "memory");
+    let three = [
+        told(rt, &mut seat, first),
+        told(rt, &mut seat, second),
+        told(rt, &mut seat, third),
+    ];
+    (three, was_refused(alloc))
+}
+
+/// How many takes stand on a device. A flusher serves a journal that was used before.
+fn standing_on<R: Abort + Wait>(rt: &R, alloc: Global, disk: MemDisk) -> u64 {
+    let (seat, flusher) = flusher_of(rt, alloc, disk);
+    drop(seat);
+    let finished = flusher.serve(rt);
+    expect!(rt; !finished.broken);
+    finished.journal.position()
 }
 
 /// A seat in a thread of its own is told of each take that it was taken, or that memory was refused, and these weren't. Where
 /// the disk in memory couldn't grow it is told unsure, and nothing after that: that take stands or not.
-#[test]
-fn calls_of_a_seat(rt: HostRuntime) {
-    let alloc = rt.alloc();
-    let (seat, flusher) = seat_of_flusher(&rt, alloc);
+fn expect_told<R: Abort + Threads + Wait + Copy + Send + 'static>(rt: R, alloc: Global) {
+    let (seat, flusher) = flusher_of(&rt, alloc, device(&rt, alloc));
     let asking = thread::spawn(&rt, move || ask_three(&rt, alloc, seat))
         .ok()
         .expect(&rt, "a thread");
     let finished = flusher.serve(&rt);
-    let heard = asking.join(&rt);
-    expect_heard(&rt, alloc, &heard, finished.journal);
+    let (three, refused) = asking.join(&rt);
+    let broken = finished.broken;
+    let standing = standing_on(&rt, alloc, finished.journal.into_disk());
+    expect!(rt; refused || three == [1, 2, 3]);
+    expect!(rt; may_be(three, standing, broken));
+}
+
+/// Whether three takes in turn may be told this, where so many stand then. Where the disk in memory couldn't grow the journal is broken,
+/// and answers no more.
+fn may_be(three: [u64; 3], standing: u64, broken: bool) -> bool {
+    match (three, broken) {
+        ([1, 2, 3], false) => standing == 3,
+        ([114, 1, 2] | [1, 114, 2] | [1, 2, 114], false) => standing == 2,
+        ([112, 0, 0], true) => standing <= 1,
+        ([1, 112, 0], true) => standing == 1 || standing == 2,
+        ([1, 2, 112], true) => standing == 2 || standing == 3,
+        _ => false,
+    }
+}
+
+#[test]
+fn calls_of_a_seat(rt: HostRuntime) {
+    expect_told(rt, rt.alloc());
 }
