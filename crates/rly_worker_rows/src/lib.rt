@@ -25,7 +25,7 @@ mod memory;
 #[cfg(test)]
 mod receivers;
 #[cfg(test)]
-mod refusals;
+mod script;
 #[cfg(test)]
 mod senders;
 #[cfg(test)]

@@ -1,92 +1,110 @@
-//! A datagram with a limit, and one of the greatest length, through a receiving worker and then a
-//! sending one.
+//! A datagram with a limit, and those of the greatest lengths, through a receiving worker and then
+//! a sending one.
 //!
 //! The bytes follow from docs/PROTOCOL.md, "Messages": those that go out are those that came, but
 //! for the two stations.
 
-use crate::receivers::{CUSTODY, receive};
-use crate::workers::{MemEnds, expect_sent, link_with, plan};
-use rly_core::{HopId, Params};
-use rly_machine::Machine;
-use rly_post::MemTurn;
-use rly_workers::{Ends, MemDesk, sender_run};
+use crate::script::{EMPTY, RECEIVER, SENDER, Script, desk, desk_after};
+use crate::workers::{Packets, Spool};
+use rly_core::Params;
 use std::alloc::Global;
 use std::process::Abort;
 use std::sync::Wait;
 
-/// A spool for the longest payloads.
-const LONG: Params = Params {
-    payload: 8_192,
-    ..Params::DEFAULT
-};
+/// What Data number 1 begins with from station 3 to station 7 and from station 7 to station 9, up to its destination 12; and how many
+/// bytes its payload has and the longest of its spool.
+type Row = (&'static [u8], &'static [u8], u64, u64);
 
-/// Data number 1 with a limit, from station 3 to station 7, and the same from station 7 to station 9: limits of 5,000 and 2^40 - 1
-/// microseconds, payload `000c41`.
-const LIMITED: [(&[u8], &[u8]); 2] = [
+const ROWS: [Row; 4] = [
+    // A limit of 5,000 microseconds.
     (
-        b"\x52\x4c\x01\x04\x00\x03\x00\x07\x00\x00\x00\x00\x00\x00\x00\x01\x00\x00\x00\x13\x88\x00\x03\x00\x0c\x41",
-        b"\x52\x4c\x01\x04\x00\x07\x00\x09\x00\x00\x00\x00\x00\x00\x00\x01\x00\x00\x00\x13\x88\x00\x03\x00\x0c\x41",
+        b"\x52\x4c\x01\x04\x00\x03\x00\x07\x00\x00\x00\x00\x00\x00\x00\x01\x00\x00\x00\x13\x88\x00\x03\x00\x0c",
+        b"\x52\x4c\x01\x04\x00\x07\x00\x09\x00\x00\x00\x00\x00\x00\x00\x01\x00\x00\x00\x13\x88\x00\x03\x00\x0c",
+        3,
+        8_192,
     ),
+    // One of 2^40 - 1.
     (
-        b"\x52\x4c\x01\x04\x00\x03\x00\x07\x00\x00\x00\x00\x00\x00\x00\x01\xff\xff\xff\xff\xff\x00\x03\x00\x0c\x41",
-        b"\x52\x4c\x01\x04\x00\x07\x00\x09\x00\x00\x00\x00\x00\x00\x00\x01\xff\xff\xff\xff\xff\x00\x03\x00\x0c\x41",
+        b"\x52\x4c\x01\x04\x00\x03\x00\x07\x00\x00\x00\x00\x00\x00\x00\x01\xff\xff\xff\xff\xff\x00\x03\x00\x0c",
+        b"\x52\x4c\x01\x04\x00\x07\x00\x09\x00\x00\x00\x00\x00\x00\x00\x01\xff\xff\xff\xff\xff\x00\x03\x00\x0c",
+        3,
+        8_192,
+    ),
+    // The longest message, which has room in the buffers of both workers.
+    (
+        b"\x52\x4c\x01\x04\x00\x03\x00\x07\x00\x00\x00\x00\x00\x00\x00\x01\x00\x00\x00\x13\x88\x20\x00\x00\x0c",
+        b"\x52\x4c\x01\x04\x00\x07\x00\x09\x00\x00\x00\x00\x00\x00\x00\x01\x00\x00\x00\x13\x88\x20\x00\x00\x0c",
+        8_192,
+        8_192,
+    ),
+    // The longest payload of a spool of the default parameters.
+    (
+        b"\x52\x4c\x01\x01\x00\x03\x00\x07\x00\x00\x00\x00\x00\x00\x00\x01\x04\xb0\x00\x0c",
+        b"\x52\x4c\x01\x01\x00\x07\x00\x09\x00\x00\x00\x00\x00\x00\x00\x01\x04\xb0\x00\x0c",
+        1_200,
+        1_200,
     ),
 ];
 
-/// The desk of a receiver of peer 1 that heard one packet, and acknowledged it.
-fn taken<R: Abort + Wait>(rt: &R, alloc: Global, packet: &[u8]) -> MemDesk {
-    let machine = Machine::new(alloc, LONG).expect(rt, "memory");
-    let link = link_with(rt, alloc, 1, &[0], packet, 0);
-    let ends = receive(rt, alloc, machine, link, 2);
-    expect_sent(rt, &ends, 1, CUSTODY);
-    ends.desk
-}
-
-/// The sender of hop 1 over that desk, in its first contact and in silence: it asks for the window, picks, and sends.
-fn handed_on<R: Abort + Wait>(rt: &R, alloc: Global, desk: MemDesk) -> MemEnds {
-    let mut ends = Ends {
-        link: link_with(rt, alloc, 0, &[], b"", 0),
-        desk,
-        turn: MemTurn::new(151, 1, 3),
-    };
-    sender_run(rt, alloc, &plan(rt, alloc), HopId(1), &LONG, &mut ends);
-    ends
-}
-
-/// Checks that a datagram which comes so goes on so.
-fn expect_handed_on<R: Abort + Wait>(rt: &R, alloc: Global, comes: &[u8], goes: &[u8]) {
-    let desk = taken(rt, alloc, comes);
-    let ends = handed_on(rt, alloc, desk);
-    expect_sent(rt, &ends, 1, goes);
-}
-
-/// A datagram is taken with the limit that it came with, and goes on with the limit that it was taken with.
-#[test]
-fn a_limit_is_handed_on(rt: HostRuntime) {
-    for (comes, goes) in &LIMITED {
-        expect_handed_on(&rt, rt.alloc(), *comes, *goes);
-    }
-}
-
-/// The longest message: Data number 1 with a limit of 5,000 between these two stations, 8,192 bytes to destination 12.
-fn longest(from: u8, to: u8) -> [u8; 8_215] {
-    let head =
-        b"\x52\x4c\x01\x04\x00\x00\x00\x00\x00\x00\x00\x00\x00\x00\x00\x01\x00\x00\x00\x13\x88\x20\x00\x00\x0c";
-    let mut packet = [0x41; 8_215];
-    let (first, _rest) = packet.split_at_mut(head.len());
-    first.copy_from_slice(head);
-    packet[5] = from;
-    packet[7] = to;
+/// A message of this payload, whose other bytes are `41`.
+fn message<R: Abort>(rt: &R, alloc: Global, head: &[u8], payload: u64) -> Vec<u8> {
+    let rest = payload.saturating_sub(2) as usize;
+    let mut packet = head.to_vec(alloc).expect(rt, "memory");
+    let filled = vec![in alloc; 0x41u8; rest].expect(rt, "memory");
+    packet.extend_from_slice(&filled).expect(rt, "memory");
     packet
 }
 
-/// Checks that it goes on.
-fn expect_longest<R: Abort + Wait>(rt: &R, alloc: Global) {
-    expect_handed_on(rt, alloc, &longest(3, 7), &longest(7, 9));
+/// Checks that what comes so goes on so: a receiver takes it and sends its custody, and the sender asks for the window, picks, and
+/// sends, in its first contact and in silence.
+fn expect_packets<R: Abort + Wait>(
+    rt: &R,
+    alloc: Global,
+    heard: &[Packets<'_>],
+    sent: &[Packets<'_>],
+    (_, _, length, payload): Row,
+) {
+    let spool = Spool {
+        params: Params {
+            payload,
+            ..Params::DEFAULT
+        },
+        ..EMPTY
+    };
+    let receiver = Script {
+        spool,
+        heard,
+        length,
+        ..RECEIVER
+    };
+    let sender = Script {
+        spool,
+        start: 151,
+        sent,
+        length,
+        ..SENDER
+    };
+    let desk = desk(rt, alloc, &receiver);
+    let desk = desk_after(rt, alloc, &receiver, &(2, [1, 1, 2, 4], [1, 0, 0]), desk);
+    let _ = desk_after(rt, alloc, &sender, &(3, [4, 1, 1, 4], [0, 1, 0]), desk);
 }
 
-/// The longest datagram has room in the buffers of both workers.
+/// Checks it of a row.
+fn expect_row<R: Abort + Wait>(rt: &R, alloc: Global, row: Row) {
+    let (comes, goes, length, _) = row;
+    let heard = message(rt, alloc, comes, length);
+    let sent = message(rt, alloc, goes, length);
+    expect_packets(rt, alloc, &[(0, &heard, &[1])], &[(0, &sent, &[1])], row);
+}
+
+fn expect_rows<R: Abort + Wait>(rt: &R, alloc: Global, rows: &[Row]) {
+    for row in rows {
+        expect_row(rt, alloc, *row);
+    }
+}
+
+/// A datagram is taken with the limit that it came with, and goes on with the limit that it was taken with, whole.
 #[test]
-fn the_longest_datagram_is_handed_on(rt: HostRuntime) {
-    expect_longest(&rt, rt.alloc());
+fn a_datagram_is_handed_on(rt: HostRuntime) {
+    expect_rows(&rt, rt.alloc(), &ROWS);
 }

@@ -1,8 +1,8 @@
 //! The link and the desk in memory on which tests of workers stand: they don't give up early
 //! either.
 
-use crate::receivers::empty;
-use crate::workers::give;
+use crate::script::EMPTY;
+use crate::workers::{Packets, are_sent, link, machine};
 use rly_core::HopId;
 use rly_machine::{Ask, Query, Reply};
 use rly_post::{Link, MAX_PACKET, MemLink};
@@ -12,80 +12,67 @@ use std::process::Abort;
 use std::sync::Wait;
 
 /// More calls than a bound of 1,000 or 1,024 would let through.
-const MANY: u64 = 1_100;
+const MANY: usize = 1_100;
 
-/// Many short packets that come, and then one that fills a worker's buffer.
-fn coming<R: Abort>(rt: &R, alloc: Global, longest: &[u8]) -> Vec<Option<Vec<u8>>> {
-    let mut coming = Vec::new(alloc);
-    for _packet in 0..MANY {
-        give(rt, alloc, &mut coming, b"abc");
-    }
-    give(rt, alloc, &mut coming, longest);
-    coming
-}
-
-/// Checks that a link gives a short packet, and sends one.
-fn expect_short<R: Abort, L: Link>(rt: &R, link: &mut L) {
-    let mut buffer = [0; 8];
-    expect!(*rt; link.try_recv(&mut buffer) == Ok(Some(3)));
-    expect!(*rt; buffer.starts_with(b"abc"));
-    expect!(*rt; link.send(b"abc") == Ok(()));
-}
-
-/// Checks that a link gives the longest packet and sends it, and gives nothing after that.
-fn expect_longest<R: Abort, L: Link>(rt: &R, link: &mut L, longest: &[u8]) {
+/// Checks that a link gives this packet, and sends it.
+fn expect_passed<R: Abort>(rt: &R, link: &mut MemLink, packet: &[u8]) {
     let mut buffer = [0; MAX_PACKET];
-    expect!(*rt; link.try_recv(&mut buffer) == Ok(Some(MAX_PACKET)));
-    expect!(*rt; buffer.as_slice() == longest);
-    expect!(*rt; link.send(longest) == Ok(()));
-    expect!(*rt; link.try_recv(&mut buffer) == Ok(None));
+    expect!(*rt; link.try_recv(&mut buffer) == Ok(Some(packet.len())));
+    expect!(*rt; buffer.starts_with(packet));
+    expect!(*rt; link.send(packet) == Ok(()));
 }
 
-/// Checks that a link gave all packets and kept each that was sent.
-fn expect_kept<R: Abort>(rt: &R, link: &MemLink) {
-    let delivered = link.delivered();
-    expect!(*rt; link.failures() == 0);
-    expect!(*rt; delivered.len() as u64 == MANY + 1);
-    expect!(*rt; delivered.iter().take(1_000).all(|sent| sent.as_slice() == b"abc".as_slice()));
-}
-
-/// Checks that a link gives many short packets and a long one, and keeps each that is sent.
-fn expect_carried<R: Abort>(rt: &R, link: &mut MemLink, longest: &[u8]) {
+/// Checks that a link gives many packets and then another, and nothing after that, and sends each.
+fn expect_carried<R: Abort>(rt: &R, link: &mut MemLink, packet: &[u8], last: &[u8]) {
     for _packet in 0..MANY {
-        expect_short(rt, link);
+        expect_passed(rt, link, packet);
     }
-    expect_longest(rt, link, longest);
-    expect_kept(rt, link);
+    expect_passed(rt, link, last);
+    expect!(*rt; link.try_recv(&mut [0; 8]) == Ok(None) && link.failures() == 0);
 }
 
-/// Checks it of a link in memory.
+/// Checks that a link keeps all that it sent.
+fn expect_kept<R: Abort>(rt: &R, alloc: Global, link: &MemLink, packets: &[Packets<'_>]) {
+    let delivered = link.delivered();
+    expect!(*rt; delivered.len() == MANY + 1 && are_sent(rt, alloc, delivered, packets));
+}
+
+/// Many short packets, and then one that fills a worker's buffer.
 fn expect_link<R: Abort>(rt: &R, alloc: Global) {
-    let longest = [7u8; MAX_PACKET];
-    let mut link = MemLink::new(alloc, coming(rt, alloc, &longest), 0);
-    expect_carried(rt, &mut link, &longest);
+    let last = [7; MAX_PACKET];
+    let packets: [Packets<'_>; 2] = [(0, b"abc", &[1; MANY]), (0, &last, &[7])];
+    let mut link = link(rt, alloc, &packets, 0);
+    expect_carried(rt, &mut link, b"abc", &last);
+    expect_kept(rt, alloc, &link, &packets);
 }
 
-/// A link gives each packet, and keeps each that is sent: many short ones, and then one that fills a worker's buffer.
+/// A link gives each packet, and keeps each that is sent.
 #[test]
 fn a_link_carries_many_packets(rt: HostRuntime) {
     expect_link(&rt, rt.alloc());
 }
 
-/// Checks that a desk answers many questions, and then another.
-fn expect_answers<R: Abort + Wait, K: Desk>(rt: &R, desk: &mut K) {
-    for number in 1..=MANY {
-        let ask = Ask::Query(Query::Window { hop: HopId(1) });
-        let answer = desk.call(rt, ask).expect(rt, "an answer");
-        expect!(*rt; answer.number == number && matches!(&answer.reply, Reply::WindowIs { .. }));
-    }
-    let ask = Ask::Query(Query::Show { hop: HopId(4) });
-    let answer = desk.call(rt, ask).expect(rt, "an answer");
-    expect!(*rt; matches!(&answer.reply, Reply::Shown(_)));
+/// Checks that a desk answers a question under this number: many of the window, and then one of a hop.
+fn expect_answer<R: Abort + Wait>(rt: &R, desk: &mut MemDesk, query: Query, number: u64) {
+    let answer = desk.call(rt, Ask::Query(query)).expect(rt, "an answer");
+    let is_told = match &answer.reply {
+        Reply::WindowIs { .. } => number <= MANY as u64,
+        Reply::Shown(_) => number > MANY as u64,
+        _ => false,
+    };
+    expect!(*rt; answer.number == number && is_told);
 }
 
-/// Checks it of a desk in memory.
+/// Checks that a desk answers many questions, and then another.
+fn expect_answers<R: Abort + Wait>(rt: &R, desk: &mut MemDesk) {
+    for number in 1..=MANY as u64 {
+        expect_answer(rt, desk, Query::Window { hop: HopId(1) }, number);
+    }
+    expect_answer(rt, desk, Query::Show { hop: HopId(4) }, MANY as u64 + 1);
+}
+
 fn expect_desk<R: Abort + Wait>(rt: &R, alloc: Global) {
-    let mut desk = MemDesk::new(alloc, empty(rt, alloc));
+    let mut desk = MemDesk::new(alloc, machine(rt, alloc, &EMPTY));
     expect_answers(rt, &mut desk);
 }
 

@@ -1,14 +1,16 @@
-//! What workers in memory work with.
+//! What the workers in memory of these tests work with.
 
-ghost use Rattle.std.specs.Prelude.{◌≤◌};
+ghost use Rattle.std.specs.Prelude.{None, false};
 
-use rly_core::{HopId, Params, PeerId};
-use rly_machine::{Ask, Command, Machine, Payload, Reply};
+use rly_core::{HopId, Params, PeerId, Refusal};
+use rly_line::{BatchError, CallError};
+use rly_machine::{Answer, Ask, Command, Machine, Payload, Reply};
 use rly_plan::Plan;
-use rly_post::{Link, MemLink, MemTurn};
-use rly_workers::{Ends, MemDesk};
+use rly_post::{Go, MemLink, MemTurn, Point, Turn, Worker};
+use rly_workers::{Desk, Ends, MemDesk};
 use std::alloc::Global;
 use std::process::Abort;
+use std::sync::Wait;
 
 /// Station 7, after station 3 and before stations 9 and 10.
 const PLAN: &str = r#"
@@ -40,67 +42,108 @@ destination = 14
 hop = 2
 "#;
 
-/// What a worker works with in these tests.
-pub(super) type MemEnds = Ends<MemLink, MemDesk, MemTurn>;
-
 /// The plan of station 7.
 pub(super) fn plan<R: Abort>(rt: &R, alloc: Global) -> Plan {
     Plan::from_toml(alloc, PLAN).ok().expect(rt, "a plan")
 }
 
-/// A spool's parameters with this window.
-pub(super) fn with_window(window: u64) -> Params {
-    Params {
-        window,
-        ..Params::DEFAULT
+/// A packet under each of these numbers, each time after so many receives that give nothing. The number's last byte stands in place 15;
+/// a shorter packet has none.
+pub(super) type Packets<'a> = (usize, &'a [u8], &'a [u8]);
+
+/// A packet under a number.
+fn numbered<R: Abort>(rt: &R, alloc: Global, packet: &[u8], number: u8) -> Vec<u8> {
+    let mut bytes = packet.to_vec(alloc).expect(rt, "memory");
+    if let Some(last) = bytes.get_mut(15) {
+        *last = number;
+    }
+    bytes
+}
+
+/// Lets nothing come so many times, and then a packet.
+fn give<R: Abort>(rt: &R, coming: &mut Vec<Option<Vec<u8>>>, silences: usize, packet: Vec<u8>) {
+    for _receive in 0..silences {
+        coming.push(None).expect(rt, "memory");
+    }
+    coming.push(Some(packet)).expect(rt, "memory");
+}
+
+/// Lets a packet come under each of its numbers.
+fn give_all<R: Abort>(
+    rt: &R,
+    alloc: Global,
+    coming: &mut Vec<Option<Vec<u8>>>,
+    (silences, packet, numbers): Packets<'_>,
+) {
+    for number in numbers {
+        give(rt, coming, silences, numbered(rt, alloc, packet, *number));
     }
 }
 
-/// A spool of so many datagrams, which has taken one for hop 1 from a peer.
-pub(super) fn spool_with<R: Abort>(rt: &R, alloc: Global, items: u64, peer: u16) -> Machine<Payload>
-    requires { (1 ≤ items) × (items ≤ 16384) }
-{
-    let params = Params {
-        items,
-        ..Params::DEFAULT
-    };
-    let mut machine = Machine::new(alloc, params).expect(rt, "memory");
-    take(rt, alloc, &mut machine, peer, 1);
-    machine
+/// What comes, receive by receive.
+fn coming<R: Abort>(rt: &R, alloc: Global, packets: &[Packets<'_>]) -> Vec<Option<Vec<u8>>> {
+    let mut coming = Vec::new(alloc);
+    for some in packets {
+        give_all(rt, alloc, &mut coming, *some);
+    }
+    coming
 }
 
-/// A spool takes a datagram for hop 1, and then has had so many from its peer.
-pub(super) fn take<R: Abort>(
+/// A link that gives this, and nothing else. Of its calls that of number `fails_at` fails.
+pub(super) fn link<R: Abort>(
+    rt: &R,
+    alloc: Global,
+    heard: &[Packets<'_>],
+    fails_at: u64,
+) -> MemLink {
+    MemLink::new(alloc, coming(rt, alloc, heard), fails_at)
+}
+
+/// Whether these are the first of the packets.
+fn begin(packets: &[Option<Vec<u8>>], delivered: &[Vec<u8>]) -> bool {
+    if delivered.len() > packets.len() {
+        return false;
+    }
+    for (sent, packet) in delivered.iter().zip(packets) {
+        match packet {
+            Some(bytes) if bytes.as_slice() == sent.as_slice() => {}
+            _ => return false,
+        }
+    }
+    true
+}
+
+/// Whether what was sent is the first of these packets.
+pub(super) fn are_sent<R: Abort>(
+    rt: &R,
+    alloc: Global,
+    delivered: &[Vec<u8>],
+    packets: &[Packets<'_>],
+) -> bool {
+    begin(&coming(rt, alloc, packets), delivered)
+}
+
+/// A spool, and how many datagrams it has taken from a peer: so many for hop 1, and then so many for hop 2.
+#[derive(Clone, Copy)]
+pub(super) struct Spool {
+    pub(super) params: Params,
+    pub(super) peer: u16,
+    pub(super) first: u64,
+    pub(super) second: u64,
+}
+
+/// A spool takes a datagram from a peer: its number, its hop and its payload.
+fn take<R: Abort>(
     rt: &R,
     alloc: Global,
     machine: &mut Machine<Payload>,
     peer: u16,
-    number: u64,
-) {
-    let payload = b"\x00\x0c\x41";
-    take_for(
-        rt,
-        alloc,
-        machine,
-        (PeerId(peer), number),
-        HopId(1),
-        payload,
-    );
-}
-
-/// The same for any hop and payload. A datagram comes from a peer under a number.
-pub(super) fn take_for<R: Abort>(
-    rt: &R,
-    alloc: Global,
-    machine: &mut Machine<Payload>,
-    (peer, number): (PeerId, u64),
-    hop: HopId,
-    payload: &[u8],
+    (number, hop, payload): (u64, u16, &[u8]),
 ) {
     let take = Ask::Command(Command::Take {
-        peer,
+        peer: PeerId(peer),
         number,
-        hop,
+        hop: HopId(hop),
         stamp: 0,
         limit: 0,
         payload: Payload::new(payload.to_vec(alloc).expect(rt, "memory")),
@@ -109,67 +152,84 @@ pub(super) fn take_for<R: Abort>(
     expect!(*rt; matches!(&reply, Ok(Reply::Taken(_))));
 }
 
-/// Lets a packet come next.
-pub(super) fn give<R: Abort>(
-    rt: &R,
-    alloc: Global,
-    coming: &mut Vec<Option<Vec<u8>>>,
-    packet: &[u8],
-) {
-    let given = Some(packet.to_vec(alloc).expect(rt, "memory"));
-    coming.push(given).expect(rt, "memory");
-}
-
-/// Lets nothing come next.
-pub(super) fn give_nothing<R: Abort>(rt: &R, coming: &mut Vec<Option<Vec<u8>>>) {
-    coming.push(None).expect(rt, "memory");
-}
-
-/// A link that gives a packet in those of so many receives that have these numbers, counted from 0, and nothing else. Of its
-/// calls that of number `fails_at` fails.
-pub(super) fn link_with<R: Abort>(
-    rt: &R,
-    alloc: Global,
-    receives: usize,
-    places: &[usize],
-    packet: &[u8],
-    fails_at: u64,
-) -> MemLink {
-    let mut coming = Vec::new(alloc);
-    for place in 0..receives {
-        match places.contains(&place) {
-            true => give(rt, alloc, &mut coming, packet),
-            false => give_nothing(rt, &mut coming),
-        }
+/// A spool takes its datagrams.
+fn fill<R: Abort>(rt: &R, alloc: Global, machine: &mut Machine<Payload>, spool: &Spool) {
+    for number in 1..=spool.first.saturating_add(spool.second) {
+        let datagram: (u64, u16, &[u8]) = match number <= spool.first {
+            true => (number, 1, b"\x00\x0c\x41"),
+            false => (number, 2, b"\x00\x0e\x42"),
+        };
+        take(rt, alloc, machine, spool.peer, datagram);
     }
-    MemLink::new(alloc, coming, fails_at)
 }
 
-/// Checks that so many packets were sent, and that each is this one.
-pub(super) fn expect_sent<R: Abort>(rt: &R, ends: &MemEnds, count: usize, packet: &[u8]) {
-    let delivered = ends.link.delivered();
-    expect!(*rt; delivered.len() == count);
-    expect!(*rt; delivered.iter().all(|sent| sent.as_slice() == packet));
+/// Such a spool.
+pub(super) fn machine<R: Abort>(rt: &R, alloc: Global, spool: &Spool) -> Machine<Payload> {
+    assert!(rt; spool.params.check().is_ok());
+    let mut machine = Machine::new(alloc, spool.params).expect(rt, "memory");
+    fill(rt, alloc, &mut machine, spool);
+    machine
 }
 
-/// Checks how many datagrams hop 1 has that wait, are in flight and were released.
-pub(super) fn expect_counts<R: Abort>(
-    rt: &R,
-    ends: &MemEnds,
-    queued: u64,
-    flight: u64,
-    released: u64,
-) {
-    expect_counts_of(rt, &ends.desk, HopId(1), (queued, flight, released));
+/// A desk in memory of whose answers one may be lost: that to the ask of this number, counted from 1, is told as this refusal. 0 is none.
+#[derive(Drop)]
+pub(super) struct Losing {
+    pub(super) desk: MemDesk,
+    pub(super) lost: (u64, Refusal),
 }
 
-/// The same for any hop.
-pub(super) fn expect_counts_of<R: Abort>(
-    rt: &R,
-    desk: &MemDesk,
-    hop: HopId,
-    counts: (u64, u64, u64),
-) {
-    let shown = desk.machine().ask_show(hop);
-    expect!(*rt; matches!(&shown, Reply::Shown(status) if (status.queued, status.flight, status.released) == counts));
+impl Desk for Losing {
+    ghost asked = { λ _. None };
+
+    fn call<R: Wait>(&mut self, rt: &R, ask: Ask) -> Result<Answer, CallError> {
+        let mut answer = self.desk.call(rt, ask)?;
+        let (at, refusal) = self.lost;
+        if self.desk.calls() == at {
+            answer.reply = Reply::Refused(refusal);
+        }
+        Ok(answer)
+    }
+
+    fn call_all<R: Wait>(
+        &mut self,
+        rt: &R,
+        asks: &mut Vec<Ask>,
+        answers: &mut Vec<Answer>,
+    ) -> Result<(), BatchError> {
+        let before = self.desk.calls();
+        self.desk.call_all(rt, asks, answers)?;
+        let (at, refusal) = self.lost;
+        let place = at.wrapping_sub(before).wrapping_sub(1);
+        if let Some(answer) = answers.get_mut(place as usize) {
+            answer.reply = Reply::Refused(refusal);
+        }
+        Ok(())
+    }
 }
+
+/// Turns that keep for how many datagrams it was said that they were taken, and for which hop it was said last.
+#[derive(Drop)]
+pub(super) struct Listening<T: Turn + Drop> {
+    pub(super) turn: T,
+    pub(super) said: u64,
+    pub(super) hop: HopId,
+}
+
+impl<T: Turn + Drop> Turn for Listening<T> {
+    ghost told = { λ _. None };
+
+    ghost endless = { λ _. false };
+
+    ghost latest = { λ t. T.latest t.turn };
+
+    fn between<R: Wait>(&mut self, rt: &R, worker: Worker, point: Point) -> Go {
+        if let Point::Taken(hop) = point {
+            self.said = self.said.saturating_add(1);
+            self.hop = hop;
+        }
+        self.turn.between(rt, worker, point)
+    }
+}
+
+/// What a worker works with in these tests.
+pub(super) type MemEnds = Ends<MemLink, Losing, Listening<MemTurn>>;
