@@ -1,12 +1,14 @@
 ghost use Rattle.std.specs.Prelude.{◌≡◌, ◌≤◌, ◌+◌, ◌↔◌, None, IfOk, OnOk};
 
 use rly_disk::{Counts, Disk, DiskFault};
-use rly_station::{FileFault, SystemWord};
+use rly_station::{ErrorLines, FailedCalls, FileFault, SystemWord};
+use std::alloc::Global;
 use std::fs::{File, Files, OpenOptions, TryLockError};
 use std::io;
 use std::io::{ErrorKind, Seek, SeekFrom};
 use std::os::fd::AsRawFd;
 use std::os::unix::fs::FileExt;
+use std::sync::Arc;
 
 /// A device in a file, which is locked against all other processes while it is open. It is a block
 /// device's file as well.
@@ -21,11 +23,14 @@ pub struct FileDisk {
     counts: Counts,
     /// What the system said of the first call that failed.
     word: Option<SystemWord>,
+    /// Its reads that failed, if they are told.
+    read_failures: Option<FailedCalls>,
     ghost word_is_told: { (word ≡ None) ↔ (counts.failures ≡ 0) },
 }
 
 impl FileDisk {
     ghost use Rattle.rly_commands.specs.FileDisk.{file_state, first_fault, kept_word, one_if_failed};
+    ghost use Rattle.rly_station.specs.Warnings.{AreReadsTold};
 
     /// Opens the device in a file. What an earlier process wrote is made durable first, or the answer is an error; and what
     /// is read from then on is what the disk has, not what the system kept in memory.
@@ -45,6 +50,15 @@ impl FileDisk {
             Err(error) if error.kind() == ErrorKind::NotFound => created(files, path),
             Err(error) => Err(FileFault::from(error)),
         }
+    }
+
+    /// The same disk, whose reads that fail are told on a station's lines.
+    pub fn with_warnings(mut self, lines: Arc<ErrorLines, Global>) -> FileDisk
+        ensures told { AreReadsTold result.read_failures }
+        ensures same { result ≡ record self { read_failures = result.read_failures } }
+    {
+        self.read_failures = Some(FailedCalls::of_reads(lines));
+        self
     }
 
     /// Makes the file as long as a device needs, durably, if it is shorter.
@@ -74,6 +88,7 @@ impl FileDisk {
         ensures word { self.new.word ≡ kept_word self.old.word outcome.now }
         ensures counts { self.new.counts ≡ counts }
         ensures size { self.new.size ≡ self.old.size }
+        ensures quiet { self.new.read_failures ≡ self.old.read_failures }
     {
         self.counts = counts;
         if let (None, Err(error)) = (&self.word, outcome) {
@@ -122,6 +137,7 @@ fn settled(file: File) -> Result<FileDisk, FileFault>
         size,
         counts: Counts::new(),
         word: None,
+        read_failures: None,
     })
 }
 
@@ -146,7 +162,10 @@ fn forget(file: &File) -> io::Result<()> {
 }
 
 impl Disk for FileDisk {
+    ghost use Rattle.std.specs.Prelude.{◌≡◌, ◌≤◌, ◌<◌, ◌+◌, ◌-◌, ◌^◌, ◌∷◌, [], OnErr, OnOk, is_ok, length, slice_range};
+    ghost use Rattle.rly_disk.specs.Trace.{Makes, Read, Sync, Write};
     ghost use Rattle.rly_commands.specs.FileDisk.{file_calls_lead, file_consistent, file_state};
+    ghost use Rattle.rly_station.specs.Warnings.{HasCountedIf};
 
     ghost state = { file_state };
 
@@ -158,7 +177,15 @@ impl Disk for FileDisk {
         self.size
     }
 
-    fn read_at(&mut self, place: u64, buffer: &mut [u8]) -> Result<(), DiskFault> {
+    fn read_at(&mut self, place: u64, buffer: &mut [u8]) -> Result<(), DiskFault>
+        requires { place + length buffer.old ≤ (file_state self.old).size }
+        ensures bytes { (file_state self.old).honest
+            → OnOk result (buffer.new ≡ slice_range (file_state self.old).seen place (place + length buffer.old)) }
+        ensures trace { Makes file_state (Read place (length buffer.old) ∷ []) (is_ok result) self.old self.new }
+        // A failed read is counted and told, and no other call is.
+        ensures quiet { OnOk result (self.new.read_failures ≡ self.old.read_failures) }
+        ensures counted { OnErr result ((self.old.counts.calls < 2 ^ 64 - 1) → HasCountedIf self.old.read_failures self.new.read_failures) }
+    {
         if self.counts.is_spent() {
             return Err(DiskFault);
         }
@@ -166,10 +193,17 @@ impl Disk for FileDisk {
         let mut counts = self.counts;
         counts.count_read(outcome.is_err());
         self.note(counts, &outcome);
+        if let (Some(read_failures), Err(error)) = (&mut self.read_failures, &outcome) {
+            read_failures.add(*error);
+        }
         outcome.map_err(|_| DiskFault)
     }
 
-    fn write_at(&mut self, place: u64, bytes: &[u8]) -> Result<(), DiskFault> {
+    fn write_at(&mut self, place: u64, bytes: &[u8]) -> Result<(), DiskFault>
+        requires { place + length bytes.now ≤ (file_state self.old).size }
+        ensures trace { Makes file_state (Write place bytes.now ∷ []) (is_ok result) self.old self.new }
+        ensures quiet { self.new.read_failures ≡ self.old.read_failures }
+    {
         if self.counts.is_spent() {
             return Err(DiskFault);
         }
@@ -180,7 +214,10 @@ impl Disk for FileDisk {
         outcome.map_err(|_| DiskFault)
     }
 
-    fn sync(&mut self) -> Result<(), DiskFault> {
+    fn sync(&mut self) -> Result<(), DiskFault>
+        ensures trace { Makes file_state (Sync ∷ []) (is_ok result) self.old self.new }
+        ensures quiet { self.new.read_failures ≡ self.old.read_failures }
+    {
         if self.counts.is_spent() {
             return Err(DiskFault);
         }

@@ -3,6 +3,7 @@
 ghost use Rattle.std.specs.Prelude.{◌≡◌, ◌⊎◌, IfOk, OnOk, false};
 ghost use Rattle.std.specs.Io.KnownBytes.{Appends};
 ghost use Rattle.rly_plan.specs.Sound.{IsSoundPlan};
+ghost use Rattle.rly_station.specs.Warnings.{AreReadsTold};
 ghost use Rattle.rly_daemon.specs.Program.{HasServed, HasServedReporting, HasServedWith, ended_line};
 
 use crate::counted_disk::CountedDisk;
@@ -16,7 +17,7 @@ use rly_plan::Plan;
 use rly_reporter::{ReporterEnd, Tally};
 use rly_segment::read_header;
 use rly_serve::{Reports, serve, serve_reporting};
-use rly_station::{ServeFault, read_keys, read_plan};
+use rly_station::{ErrorLines, ServeFault, read_keys, read_plan};
 use rly_text::TextFault;
 use std::alloc::{AllocError, Global};
 use std::fs::{File, Files};
@@ -57,8 +58,9 @@ fn serve_plan<H: Host, E: Write>(
     ensures served { OnOk result (HasServed turns (E.contents errors.new)) }
 {
     let keys = read_keys(rt, plan, path)?;
-    let (journal, size) = open_file(rt, file)?;
-    match serve(rt, journal, plan, keys, turns, size, errors) {
+    let lines = shared_lines(rt.alloc())?;
+    let (journal, size) = open_file(rt, file, &lines)?;
+    match serve(rt, journal, plan, keys, turns, size, lines, errors) {
         Ok(_relayed) => tell_end(turns, errors),
         Err(failed) => Err(fault_of(failed)),
     }
@@ -79,7 +81,8 @@ fn report_plan<H: Host, W: Write + Send, E: Write>(
     ensures served { OnOk result (HasServedReporting turns (W.contents writer.old) (W.contents writer.new) (E.contents errors.new)) }
 {
     let keys = read_keys(rt, plan, path)?;
-    let (journal, size, tally) = open_told(rt, file, plan)?;
+    let lines = shared_lines(rt.alloc())?;
+    let (journal, size, tally) = open_told(rt, file, plan, &lines)?;
     let word = OnceLock::new();
     let reports = Reports {
         seconds,
@@ -87,7 +90,7 @@ fn report_plan<H: Host, W: Write + Send, E: Write>(
         word: &word,
     };
     match serve_reporting(
-        rt, journal, plan, keys, turns, size, reports, writer, errors,
+        rt, journal, plan, keys, turns, size, lines, reports, writer, errors,
     ) {
         Ok(reported) => reports_ended(turns, reported.into_end(), errors),
         Err((fault, disk)) => Err(fault_of((fault, disk.into_inner()))),
@@ -112,6 +115,14 @@ fn reports_ended<E: Write>(turns: u64, end: ReporterEnd, errors: &mut E) -> Resu
     match end {
         ReporterEnd::Output => Err(CommandFault::Text(TextFault::Output)),
         ReporterEnd::Paced | ReporterEnd::Closed => Ok(()),
+    }
+}
+
+/// The lines on standard error that the workers and the device share.
+fn shared_lines(alloc: Global) -> Result<Arc<ErrorLines, Global>, ServeFault> {
+    match ErrorLines::shared(alloc) {
+        Ok(lines) => Ok(lines),
+        Err(refused) => Err(refused.into()),
     }
 }
 
@@ -160,14 +171,30 @@ fn tell_end<E: Write>(turns: u64, errors: &mut E) -> Result<(), CommandFault>
     told.map_err(|_| CommandFault::Serve(ServeFault::Untold))
 }
 
+/// Opens the device in a file, whose reads that fail are told on the lines.
+fn open_disk<H: AllocGlobal + Files<File = File>>(
+    rt: &H,
+    file: &str,
+    lines: &Arc<ErrorLines, Global>,
+) -> Result<FileDisk, CommandFault>
+    ensures told { IfOk result (λ disk. AreReadsTold disk.read_failures) }
+{
+    let disk = FileDisk::open(rt, file)?;
+    match Arc::try_clone(lines) {
+        Ok(lines) => Ok(disk.with_warnings(lines)),
+        Err(refused) => Err(CommandFault::Serve(refused.into())),
+    }
+}
+
 /// Opens the journal on the device in a file, and says how many bytes the file has.
 fn open_file<H: AllocGlobal + Files<File = File>>(
     rt: &H,
     file: &str,
+    lines: &Arc<ErrorLines, Global>,
 ) -> Result<(Journal<FileDisk>, u64), CommandFault>
     ensures whole { IfOk result (λ opened. opened.0.broken ≡ false) }
 {
-    let disk = FileDisk::open(rt, file)?;
+    let disk = open_disk(rt, file, lines)?;
     let size = disk.size();
     let journal = open_journal(rt.alloc(), disk)?;
     Ok((journal, size))
@@ -178,11 +205,12 @@ fn open_told<H: AllocGlobal + Files<File = File>>(
     rt: &H,
     file: &str,
     plan: &Plan,
+    lines: &Arc<ErrorLines, Global>,
 ) -> Result<(Journal<CountedDisk<FileDisk>>, u64, Arc<Tally, Global>), CommandFault>
     ensures whole { IfOk result (λ opened. opened.0.broken ≡ false) }
 {
     let tally = tally_of(rt.alloc(), plan)?;
-    let (journal, size) = open_counted(rt, file, &tally)?;
+    let (journal, size) = open_counted(rt, file, &tally, lines)?;
     Ok((journal, size, tally))
 }
 
@@ -191,10 +219,11 @@ fn open_counted<H: AllocGlobal + Files<File = File>>(
     rt: &H,
     file: &str,
     tally: &Arc<Tally, Global>,
+    lines: &Arc<ErrorLines, Global>,
 ) -> Result<(Journal<CountedDisk<FileDisk>>, u64), CommandFault>
     ensures whole { IfOk result (λ opened. opened.0.broken ≡ false) }
 {
-    let disk = FileDisk::open(rt, file)?;
+    let disk = open_disk(rt, file, lines)?;
     let size = disk.size();
     let disk = watched(disk, tally)?;
     match Journal::open(rt.alloc(), disk) {

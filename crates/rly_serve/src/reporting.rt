@@ -32,7 +32,7 @@ use rly_plan::Plan;
 use rly_post::{Link, Post, Turn, Worker};
 use rly_reporter::{Counters, Pace, Reported, TalliedLink, Tally, run_reported};
 use rly_seal::TaggedLink;
-use rly_station::{NeighbourLink, PlanKeys, ServeFault, WallClock};
+use rly_station::{ErrorLines, NeighbourLink, PlanKeys, ServeFault, WallClock};
 use std::alloc::{AllocError, Global};
 use std::io::Write;
 use std::net::Net;
@@ -83,6 +83,7 @@ pub fn serve_reporting<
     keys: PlanKeys<'_>,
     turns: u64,
     size: u64,
+    lines: Arc<ErrorLines, Global>,
     reports: Reports<'o>,
     writer: &mut W,
     errors: &mut E,
@@ -113,6 +114,7 @@ pub fn serve_reporting<
         keys,
         turns,
         size,
+        lines,
         &reports.tally,
         errors,
     ) {
@@ -197,6 +199,7 @@ fn told_start<'a, H: AllocGlobal + Net + Clock, D: Disk, E: Write>(
     keys: PlanKeys<'_>,
     turns: u64,
     size: u64,
+    lines: Arc<ErrorLines, Global>,
     tally: &Arc<Tally, Global>,
     errors: &mut E,
 ) -> Result<(Vec<ToldPost<'a, H>>, bool), ServeFault>
@@ -207,7 +210,7 @@ fn told_start<'a, H: AllocGlobal + Net + Clock, D: Disk, E: Write>(
     ensures posts { IfOk result (λ started. map (duty_over link_below) started.0.items
         ≡ duties plan.now keys.entry (longest_message journal.now.state.params.payload) turns) }
 {
-    let posts = ready_posts(rt, journal, plan, keys, turns)?;
+    let posts = ready_posts(rt, journal, plan, keys, turns, lines)?;
     let is_told = tell_start(journal, plan, size, &posts, errors).is_ok();
     match told_posts(rt, plan, posts, tally) {
         Ok(posts) => Ok((posts, is_told)),

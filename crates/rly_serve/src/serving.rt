@@ -24,14 +24,15 @@ use rly_journal::Journal;
 use rly_plan::Plan;
 use rly_post::{Link, Post, Turn};
 use rly_station::{
-    Cause, NeighbourLink, PlanKeys, ServeFault, UdpPost, WallClock, WorkerName, posts_of,
+    Cause, ErrorLines, NeighbourLink, PlanKeys, ServeFault, UdpPost, WallClock, WorkerName,
+    posts_of,
 };
 use rly_threads::{Relayed, run_relay};
 use std::alloc::{AllocError, Global};
 use std::io;
 use std::io::Write;
 use std::net::Net;
-use std::sync::Wait;
+use std::sync::{Arc, Wait};
 use std::thread::Threads;
 use std::time::Clock;
 
@@ -39,10 +40,10 @@ use std::time::Clock;
 pub type UdpRelayed<'a, D, H> = Relayed<D, NeighbourLink<&'a H>, WallClock<&'a H>>;
 
 /// Runs the relay of a plan, with the keys of its links, on a journal until each worker had its turns, and answers what it
-/// leaves. Where the turns are 0 they are without end. Once all that it needs is there it tells what it serves, on a device of
-/// `size` bytes; where that can't be told it serves all the same, and the answer is `Untold` at its end. Once the journal is
-/// broken each worker ends at its next turn, and the answer is `Broken`. Where the system has no thread for one of them, the
-/// others end at once, and the answer is `Worker`. A fault gives the disk back.
+/// leaves. Where the turns are 0 they are without end. The workers tell their warnings on the lines. Once all that is needed is there
+/// it tells what it serves, on a device of `size` bytes; where that can't be told it serves all the same, and the answer is `Untold` at
+/// its end. Once the journal is broken each worker ends at its next turn, and the answer is `Broken`. Where the system has no thread for
+/// one of them, the others end at once, and the answer is `Worker`. A fault gives the disk back.
 pub fn serve<'a, H: AllocGlobal + Net + Threads + Wait + Clock + Sync, D: Disk + Drop, E: Write>(
     rt: &'a H,
     journal: Journal<D>,
@@ -50,6 +51,7 @@ pub fn serve<'a, H: AllocGlobal + Net + Threads + Wait + Clock + Sync, D: Disk +
     keys: PlanKeys<'_>,
     turns: u64,
     size: u64,
+    lines: Arc<ErrorLines, Global>,
     errors: &mut E,
 ) -> Result<UdpRelayed<'a, D, H>, (ServeFault, D)>
     requires sound { IsSoundPlan plan.now }
@@ -68,7 +70,7 @@ pub fn serve<'a, H: AllocGlobal + Net + Threads + Wait + Clock + Sync, D: Disk +
     ensures left { IfOk result (λ relayed. relayed.finished.last.value.journal ≡ relayed.finished.journal) }
     ensures whole { IfOk result (λ relayed. relayed.finished.journal.broken ≡ false) }
 {
-    let posts = match ready_posts(rt, &journal, plan, keys, turns) {
+    let posts = match ready_posts(rt, &journal, plan, keys, turns, lines) {
         Ok(posts) => posts,
         Err(fault) => return Err((fault, journal.into_disk())),
     };
@@ -125,6 +127,7 @@ pub(crate) fn ready_posts<'a, H: AllocGlobal + Net + Clock, D: Disk>(
     plan: &Plan,
     keys: PlanKeys<'_>,
     turns: u64,
+    lines: Arc<ErrorLines, Global>,
 ) -> Result<Vec<UdpPost<'a, H>>, ServeFault>
     requires { IsSoundPlan plan.now }
     ensures room { OnOk result (HasRoom plan.now journal.now.state.params) }
@@ -134,7 +137,7 @@ pub(crate) fn ready_posts<'a, H: AllocGlobal + Net + Clock, D: Disk>(
         ≡ duties plan.now keys.entry (longest_message journal.now.state.params.payload) turns) }
 {
     let longest = longest_served(journal, plan)?;
-    posts_of(rt, plan, keys, longest, turns)
+    posts_of(rt, plan, keys, longest, turns, lines)
 }
 
 /// The longest message of a journal that has room for a plan's neighbours and isn't broken.

@@ -22,13 +22,13 @@ use Rattle.rly_seal.specs.contracts.sealed.Sealed as Sealed
 use Rattle.rly_seal.specs.contracts.sealed.Sealed.TheInside as Inside
 use Rattle.rly_seal.specs.contracts.station_link.StationLink as Station
 use Rattle.rly_seal.specs.contracts.station_link.StationLinkLink.TheImpl as StationImpl
-use Rattle.rly_station.specs.contracts.failed_sends.FailedSends as FailedSends
+use Rattle.rly_station.specs.contracts.failed_calls.FailedCalls as FailedCalls
 use Rattle.rly_station.specs.contracts.neighbour_link.NeighbourLink as NeighbourLink
 use Rattle.rly_station.specs.contracts.udp_link.UdpLink as UdpLink
 use Rattle.rly_station.specs.contracts.udp_link.UdpLinkLink.TheImpl as Impl
 use Rattle.rly_station.specs.contracts.wrong_tags.WrongTags as WrongTags
 
-sends_send : IsSend FailedSends.the_field.row
+sends_send : IsSend FailedCalls.the_field.row
 sends_send = search (sendable, crosses, the_send) depth 30
 
 tags_send : IsSend WrongTags.the_field.row

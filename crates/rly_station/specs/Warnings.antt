@@ -1,19 +1,22 @@
--- What a station tells of while it serves: sends that fail, packets without a right tag, and a clock that is set
+-- What a station tells of while it serves: sends and reads that fail, packets without a right tag, and a clock that is set
 -- (docs/COMMANDS.md, "rly serve").
 use Rattle.std.specs.Prelude.{◌≡◌, ℕ, ◌+◌, ◌-◌, ◌%◌, ◌/◌, ◌^◌, ◌==◌, nat_lt, max, min, ℤ, unsigned_abs}
 use Rattle.std.specs.Prelude.{if◌then◌else◌, codes, slice_index_or}
 use Rattle.std.specs.Prelude.{Bool, true, false, not, ◌&&◌, ◌||◌, List, [], ◌∷◌, ◌++◌, map, set, Option, Some, None}
 use Rattle.std.specs.Fmt.{decimal}
 use Rattle.std.specs.IoError.{raw_os_error}
+use Rattle.std.specs.Option.{option_map}
 use Rattle.std.specs.declared.io.Error.{Error}
 use Rattle.rly_station.specs.declared.clock_watch.ClockWatch.{ClockWatch}
 use Rattle.rly_station.specs.declared.clock_watch.Reading.{Reading}
-use Rattle.rly_station.specs.declared.failed_sends.FailedSends.{FailedSends}
+use Rattle.rly_station.specs.declared.failed_calls.FailedCalls.{FailedCalls}
 use Rattle.rly_station.specs.declared.teller.Teller.{Teller}
+use Rattle.rly_station.specs.declared.warning.SystemCall.{SystemCall}
+use Rattle.rly_station.specs.declared.warning.SystemCall.TheVariants.{Read, Send}
 use Rattle.rly_station.specs.declared.warning.Step.{Step}
 use Rattle.rly_station.specs.declared.warning.Step.TheVariants.{Ahead, Back}
 use Rattle.rly_station.specs.declared.warning.Warning.{Warning}
-use Rattle.rly_station.specs.declared.warning.Warning.TheVariants.{ClockSet, FailedSend, WrongTag}
+use Rattle.rly_station.specs.declared.warning.Warning.TheVariants.{ClockSet, FailedCall, WrongTag}
 use Rattle.rly_post.specs.declared.turn.Worker.{Worker}
 use Rattle.rly_post.specs.declared.turn.Worker.TheVariants as worker
 
@@ -22,14 +25,19 @@ abbrev pub name_text : Worker → List ℕ
 name_text (worker.Receiver peer) = codes "peer " ++ decimal peer.0
 name_text (worker.Sender hop) = codes "hop " ++ decimal hop.0
 
+-- whose the calls are that are told where they fail, and which
+abbrev pub call_text : SystemCall → List ℕ
+call_text (Send w) = name_text w ++ codes ": failed send"
+call_text Read = codes "device: failed read"
+
 -- how far the clock was set, in milliseconds
 abbrev pub step_text : Step → List ℕ
 step_text (Ahead by) = codes "the clock was set ahead by " ++ decimal (by / 1000) ++ codes " ms"
 step_text (Back by) = codes "the clock was set back by " ++ decimal (by / 1000) ++ codes " ms"
 
--- the line of a warning, without its end; of a failed send it has the system's word, which no clause knows
+-- the line of a warning, without its end; of a failed call it has the system's word, which no clause knows
 abbrev pub warning_text : Warning → Option (List ℕ)
-warning_text (FailedSend w count word) = None
+warning_text (FailedCall call count word) = None
 warning_text (WrongTag w count) =
     Some (codes "rly: " ++ name_text w ++ codes ": packet " ++ decimal count ++ codes " without a right tag")
 warning_text (ClockSet step) = Some (codes "rly: " ++ step_text step)
@@ -42,7 +50,7 @@ told_by teller = map (λ e. e.0) teller.told.items
 abbrev pub next_count : ℕ → ℕ
 next_count count = min (count + 1) (2 ^ 64 - 1)
 
--- the kind of a failed send: the system's number of the error, 255 for those above; 0 where the system gave none
+-- the kind of a failed call: the system's number of the error, 255 for those above; 0 where the system gave none
 abbrev pub kind_of_code : Option ℤ → ℕ
 kind_of_code None = 0
 kind_of_code (Some code) = min (unsigned_abs code) 255
@@ -50,25 +58,29 @@ kind_of_code (Some code) = min (unsigned_abs code) 255
 abbrev pub kind_of : Error → ℕ
 kind_of error = kind_of_code (raw_os_error error)
 
--- of the failed sends the first of each kind is told, and every thousandth
-abbrev pub is_send_told : Bool → ℕ → Bool
-is_send_told is_known count = not is_known || (count % 1000 == 0)
+-- of the failed calls the first of each kind is told, and every thousandth
+abbrev pub is_call_told : Bool → ℕ → Bool
+is_call_told is_known count = not is_known || (count % 1000 == 0)
+
+-- the failed reads of a device are told
+abbrev pub AreReadsTold : Option FailedCalls → Type 0
+AreReadsTold calls = option_map (λ c. c.call) calls ≡ Some Read
 
 -- what is told of one
-abbrev pub send_told : FailedSends → Error → List Warning
-send_told sends error =
-    if is_send_told (slice_index_or sends.came (kind_of error) false) (next_count sends.count)
-    then FailedSend sends.worker (next_count sends.count) (record { 0 = error }) ∷ [] else []
+abbrev pub failure_told : FailedCalls → Error → List Warning
+failure_told calls error =
+    if is_call_told (slice_index_or calls.came (kind_of error) false) (next_count calls.count)
+    then FailedCall calls.call (next_count calls.count) (record { 0 = error }) ∷ [] else []
 
--- one failed send more was counted, and told if it is to be; its kind has come, and what came before is kept
-pub record HasCounted (old new : FailedSends) (error : Error) : Type 0 where
-  pub worker : new.worker ≡ old.worker
+-- one failed call more was counted, and told if it is to be; its kind has come, and what came before is kept
+pub record HasCounted (old new : FailedCalls) (error : Error) : Type 0 where
+  pub call : new.call ≡ old.call
   pub count : new.count ≡ next_count old.count
   pub came : new.came ≡ set old.came (kind_of error) true
-  pub told : told_by new.teller ≡ told_by old.teller ++ send_told old error
+  pub told : told_by new.teller ≡ told_by old.teller ++ failure_told old error
 
--- the same of a link whose failed sends are counted, if they are
-abbrev pub HasCountedIf : Option FailedSends → Option FailedSends → Type 0
+-- the same of a link or a device whose failed calls are told, if they are
+abbrev pub HasCountedIf : Option FailedCalls → Option FailedCalls → Type 0
 HasCountedIf None new = new ≡ None
 HasCountedIf (Some old) None = ⊥
 HasCountedIf (Some old) (Some new) = (error : Error) × HasCounted old new error

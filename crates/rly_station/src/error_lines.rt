@@ -1,38 +1,41 @@
-//! What the workers say on standard error.
+//! What is said on standard error while a station serves.
 
 use crate::warning::Warning;
 use libc::net::{POLLOUT, poll};
 use libc::types::pollfd;
-use std::alloc::Global;
+use std::alloc::{AllocError, Global};
+use std::sync::Arc;
 use std::sync::atomic::{AtomicU64, Ordering};
 use std::thread;
 
 /// The number of standard error.
 const STANDARD_ERROR: i32 = 2;
 
-/// No worker says anything.
+/// Nobody says anything.
 const FREE: u64 = 0;
 
-/// A worker says something.
+/// Somebody says something.
 const BUSY: u64 = 1;
 
-/// How often a worker looks whether another one is done with its line.
+/// How often one looks whether another is done with its line.
 const LOOKS: u64 = 10_000;
 
-/// The lines of the workers on standard error, one at a time. No line ends or holds up a worker: one that standard error doesn't
-/// take at once, since nobody reads it, is left out.
+/// The lines of the workers and of the device on standard error, one at a time. No line ends or holds up who says it: one that
+/// standard error doesn't take at once, since nobody reads it, is left out.
 #[derive(Drop)]
-pub(crate) struct ErrorLines {
+pub struct ErrorLines {
     alloc: Global,
     state: AtomicU64,
 }
 
 impl ErrorLines {
-    pub(crate) fn new(alloc: Global) -> ErrorLines {
-        ErrorLines {
+    /// A station's lines, of which each worker and the device has a share.
+    pub fn shared(alloc: Global) -> Result<Arc<ErrorLines, Global>, AllocError> {
+        let lines = ErrorLines {
             alloc,
             state: AtomicU64::new(FREE),
-        }
+        };
+        Ok(Arc::new(alloc, lines)?)
     }
 
     /// Says a line, if standard error takes it at once.
@@ -46,7 +49,7 @@ impl ErrorLines {
         }
     }
 
-    /// Waits until no other worker says anything. Whether that came: another one's line takes no time.
+    /// Waits until nobody else says anything. Whether that came: a line takes no time.
     fn begin(&self) -> bool {
         for _look in 0..LOOKS {
             if self.state.swap(BUSY, Ordering::SeqCst) == FREE {

@@ -11,7 +11,7 @@ mod address_fault;
 mod bells;
 mod clock_watch;
 mod error_lines;
-mod failed_sends;
+mod failed_calls;
 mod file_fault;
 mod keeping;
 mod key_fault;
@@ -30,6 +30,8 @@ mod workers;
 mod wrong_tags;
 
 pub use crate::address_fault::{AddressFault, End, EndFault};
+pub use crate::error_lines::ErrorLines;
+pub use crate::failed_calls::FailedCalls;
 pub use crate::file_fault::{Cause, FileFault, FilePart, SystemWord};
 pub use crate::key_fault::{KeyFault, KeyWord};
 pub use crate::neighbour_link::NeighbourLink;

@@ -5,7 +5,6 @@ ghost use Rattle.std.specs.Prelude.{◌≡◌, ◌↔◌, IsTrue, IsNone};
 ghost use Rattle.rly_ahead.specs.AheadLink.{new_ahead};
 ghost use Rattle.rly_seal.specs.StationLink.{keys_over, station_link};
 
-use crate::failed_sends::FailedSends;
 use crate::keeping::Keeping;
 use crate::teller::Teller;
 use crate::udp_link::UdpLink;

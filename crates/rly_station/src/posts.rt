@@ -9,7 +9,8 @@ ghost use Rattle.rly_station.specs.WallClock.{turns_left};
 use crate::address_fault::{AddressFault, End, EndFault};
 use crate::bells::Bells;
 use crate::clock_watch::ClockWatch;
-use crate::failed_sends::FailedSends;
+use crate::error_lines::ErrorLines;
+use crate::failed_calls::FailedCalls;
 use crate::keeping::Keeping;
 use crate::neighbour_link::NeighbourLink;
 use crate::plan_keys::{KeyedWorker, PlanKeys};
@@ -17,6 +18,7 @@ use crate::serve_fault::ServeFault;
 use crate::signals::Signals;
 use crate::udp_link::UdpLink;
 use crate::wall_clock::WallClock;
+use crate::warning::SystemCall;
 use rly_core::HopId;
 use rly_plan::{Addresses, Plan};
 use rly_post::{Post, Worker};
@@ -28,18 +30,20 @@ use std::time::Clock;
 /// A worker of the relay, its link and its turns.
 pub type UdpPost<'a, H> = Post<NeighbourLink<&'a H>, WallClock<&'a H>>;
 
-/// The workers of a plan, each with its link, which keeps no longer packet than `longest` bytes, and its turns.
+/// The workers of a plan, each with its link, which keeps no longer packet than `longest` bytes, and its turns. They tell their warnings
+/// on the lines.
 pub fn posts_of<'a, H: AllocGlobal + Net + Clock>(
     rt: &'a H,
     plan: &Plan,
     keys: PlanKeys<'_>,
     longest: usize,
     turns: u64,
+    lines: Arc<ErrorLines, Global>,
 ) -> Result<Vec<UdpPost<'a, H>>, ServeFault>
     requires { IsSoundPlan plan.now }
     ensures { IfOk result (λ posts. map duty_at posts.items ≡ duties plan.now keys.entry longest turns) }
 {
-    let signals = Signals::open(rt, rt.alloc(), plan)?;
+    let signals = Signals::open(rt, rt.alloc(), plan, lines)?;
     shared_posts(rt, plan, keys, longest, turns, &signals)
 }
 
@@ -99,13 +103,13 @@ fn socket_of<'a, H: Net + Clock>(
     signals: &Signals,
 ) -> Result<UdpLink<&'a H>, ServeFault>
     ensures addresses { IfOk result (λ link. link.addresses.value ≡ addresses.now) }
-    ensures sends { IfOk result (λ link. option_map (λ f. f.worker) link.failed_sends ≡ Some worker) }
+    ensures sends { IfOk result (λ link. option_map (λ f. f.call) link.failed_sends ≡ Some (SystemCall.Send worker)) }
 {
     let bell = bell_of(worker, signals)?;
     let teller = signals.teller()?;
     match UdpLink::open(rt, rt, addresses) {
         Ok(socket) => {
-            let failed_sends = FailedSends::new(worker, teller);
+            let failed_sends = FailedCalls::new(SystemCall::Send(worker), teller);
             Ok(socket.with_bell(bell).with_failed_sends(failed_sends))
         }
         Err(fault) => Err(fault_of_link(alloc, worker, addresses, fault)),

@@ -13,7 +13,7 @@ use std::alloc::{AllocError, Global};
 use std::net::Net;
 use std::sync::Arc;
 
-/// The bells of a station's hops, and its lines on standard error. Each worker has a share in both.
+/// The bells of a station's hops, and its lines on standard error. Each worker has a share in both, and the device in the lines.
 #[derive(Drop)]
 pub(crate) struct Signals {
     bells: Arc<Bells, Global>,
@@ -22,12 +22,14 @@ pub(crate) struct Signals {
 
 impl Signals {
     /// Those of a plan's station. It fails where the system refuses the address that a hop's link receives at.
-    pub(crate) fn open<N: Net>(net: &N, alloc: Global, plan: &Plan) -> Result<Signals, ServeFault>
+    pub(crate) fn open<N: Net>(
+        net: &N,
+        alloc: Global,
+        plan: &Plan,
+        lines: Arc<ErrorLines, Global>,
+    ) -> Result<Signals, ServeFault>
         requires { IsSoundPlan plan.now }
     {
-        let Ok(lines) = Arc::new(alloc, ErrorLines::new(alloc)) else {
-            return Err(AllocError.into());
-        };
         let bells = Bells::open(net, alloc, plan)?;
         match Arc::new(alloc, bells) {
             Ok(bells) => Ok(Signals { bells, lines }),

@@ -7,7 +7,7 @@ use http_server::Log;
 use std::alloc::Global;
 use std::sync::Arc;
 
-/// Who tells the warnings of a worker. Contracts see what was told.
+/// Who tells the warnings of a worker, or of the device. Contracts see what was told.
 #[derive(Drop)]
 pub(crate) struct Teller {
     lines: Arc<ErrorLines, Global>,

@@ -3,7 +3,7 @@ ghost use Rattle.rly_post.specs.Telling.{FailuresRose};
 
 use crate::address_fault::{End, EndFault};
 use crate::bells::Bells;
-use crate::failed_sends::FailedSends;
+use crate::failed_calls::FailedCalls;
 use crate::file_fault::SystemWord;
 use rly_core::HopId;
 use rly_plan::Addresses;
@@ -45,7 +45,7 @@ pub struct UdpLink<C: Clock + Drop> {
     waited: Duration,
     given: u64,
     /// Its sends that failed, if they are told.
-    failed_sends: Option<FailedSends>,
+    failed_sends: Option<FailedCalls>,
     /// What ends its waits, and of which hop it is the link, if anything ends them.
     bell: Option<(Arc<Bells, Global>, HopId)>,
     addresses: Snapshot<Addresses>,
@@ -83,7 +83,7 @@ impl<C: Clock + Drop> UdpLink<C> {
     }
 
     /// The same, and it tells of sends that fail.
-    pub(crate) fn with_failed_sends(mut self, failed_sends: FailedSends) -> UdpLink<C>
+    pub(crate) fn with_failed_sends(mut self, failed_sends: FailedCalls) -> UdpLink<C>
         ensures { result ≡ record self { failed_sends = Some failed_sends } }
     {
         self.failed_sends = Some(failed_sends);

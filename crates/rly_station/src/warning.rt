@@ -27,12 +27,35 @@ impl Display for Step {
     }
 }
 
-/// What a worker tells of; displays as the line for standard error, without its end.
+/// The calls of the system whose failures are told; displays as whose they are, and which.
+#[derive(Clone, Copy, PartialEq, Eq)]
+pub(crate) enum SystemCall {
+    /// The sends of a worker's link.
+    Send(Worker),
+    /// The reads of the device.
+    Read,
+}
+
+impl Display for SystemCall {
+    ghost use Rattle.std.specs.Prelude.{Some};
+    ghost use Rattle.rly_station.specs.Warnings.{call_text};
+
+    ghost output = { λ call. Some (call_text call) };
+
+    fn fmt<W: fmt::Write>(&self, f: &mut Formatter<W>) -> fmt::Result {
+        match self {
+            SystemCall::Send(worker) => write!(f, "{}: failed send", WorkerName(*worker)),
+            SystemCall::Read => write!(f, "device: failed read"),
+        }
+    }
+}
+
+/// What is told while a station serves; displays as the line for standard error, without its end.
 #[derive(Clone, Copy)]
 pub(crate) enum Warning {
-    /// A send failed: whose link it is, how many did with it, and what the system said.
-    FailedSend {
-        worker: Worker,
+    /// A call failed: which it is, how many did with it, and what the system said.
+    FailedCall {
+        call: SystemCall,
         count: u64,
         word: SystemWord,
     },
@@ -52,15 +75,9 @@ impl Display for Warning {
 
     fn fmt<W: fmt::Write>(&self, f: &mut Formatter<W>) -> fmt::Result {
         match self {
-            Warning::FailedSend {
-                worker,
-                count,
-                word,
-            } => write!(
-                f,
-                "rly: {}: failed send {count}: {word}",
-                WorkerName(*worker)
-            ),
+            Warning::FailedCall { call, count, word } => {
+                write!(f, "rly: {call} {count}: {word}")
+            }
             Warning::WrongTag { worker, count } => write!(
                 f,
                 "rly: {}: packet {count} without a right tag",
