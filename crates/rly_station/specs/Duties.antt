@@ -10,11 +10,11 @@ use Rattle.rly_post.specs.declared.turn.Worker.TheVariants as worker
 use Rattle.rly_seal.specs.StationLink.{keys_over, link_below}
 use Rattle.rly_station.specs.Keeping.{keeping_of}
 use Rattle.rly_station.specs.WallClock.{turns_left}
+use Rattle.rly_station.specs.Warnings.{KnownFailures, known_of, none_yet}
 use Rattle.rly_station.specs.declared.keeping.Keeping.{Keeping}
 use Rattle.rly_station.specs.declared.neighbour_link.NeighbourLink.{NeighbourLink}
 use Rattle.rly_station.specs.declared.plan_keys.KeyedWorker.{KeyedWorker}
 use Rattle.rly_station.specs.declared.wall_clock.WallClock.{WallClock}
-use Rattle.rly_station.specs.declared.warning.SystemCall.{SystemCall}
 use Rattle.rly_station.specs.declared.warning.SystemCall.TheVariants.{Send}
 use Rattle.rly_tag.specs.Keys.{Keys}
 
@@ -35,9 +35,9 @@ abbrev pub addresses_of : ContactPlan → Worker → Option Endpoints
 addresses_of plan (worker.Receiver peer) = option_map (λ n. n.addresses) (peer_at plan peer)
 addresses_of plan (worker.Sender hop) = option_map (λ n. n.addresses) (next_hop_at plan hop)
 
--- what a worker warns of: which failed calls, whose packets without a right tag, and whether of the clock
+-- what a worker warns of: which calls that fail and what is known of them, whose packets without a right tag, and whether of the clock
 pub record Warned : Type 0 where
-  pub failures : Option SystemCall
+  pub failures : Option KnownFailures
   pub tags : Worker
   pub clock : Bool
 
@@ -47,7 +47,7 @@ is_first (worker.Receiver peer) = peer.0 == 1
 is_first (worker.Sender hop) = false
 
 abbrev pub warned_of : Worker → Warned
-warned_of w = record { failures = Some (Send w); tags = w; clock = is_first w }
+warned_of w = record { failures = Some (none_yet (Send w)); tags = w; clock = is_first w }
 
 -- a worker, the addresses of its link, the keys over it, what it keeps of early Data, how many
 -- turns it has, and what it warns of
@@ -74,7 +74,7 @@ StationPost C = PostOver (NeighbourLink C) C
 -- what the worker of a post warns of
 abbrev pub warned_over : {L C : Type 0} → (L → NeighbourLink C) → PostOver L C → Warned
 warned_over below post = record {
-  failures = option_map (λ f. f.call) (link_below (below post.link).link.link).failed_sends;
+  failures = option_map known_of (link_below (below post.link).link.link).failed_sends;
   tags = (below post.link).wrong_tags.worker;
   clock = is_some post.turn.watch;
 }

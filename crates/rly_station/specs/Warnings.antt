@@ -1,7 +1,7 @@
 -- What a station tells of while it serves: sends and reads that fail, packets without a right tag, and a clock that is set
 -- (docs/COMMANDS.md, "rly serve").
 use Rattle.std.specs.Prelude.{◌≡◌, ℕ, ◌+◌, ◌-◌, ◌%◌, ◌/◌, ◌^◌, ◌==◌, nat_lt, max, min, ℤ, unsigned_abs}
-use Rattle.std.specs.Prelude.{if◌then◌else◌, codes, slice_index_or}
+use Rattle.std.specs.Prelude.{if◌then◌else◌, codes, replicate, slice_index_or}
 use Rattle.std.specs.Prelude.{Bool, true, false, not, ◌&&◌, ◌||◌, List, [], ◌∷◌, ◌++◌, map, set, Option, Some, None}
 use Rattle.std.specs.Fmt.{decimal}
 use Rattle.std.specs.IoError.{raw_os_error}
@@ -62,9 +62,23 @@ kind_of error = kind_of_code (raw_os_error error)
 abbrev pub is_call_told : Bool → ℕ → Bool
 is_call_told is_known count = not is_known || (count % 1000 == 0)
 
--- the failed reads of a device are told
+-- what is known of the failures of these calls: how many they are, which kinds came, and what was told of them
+pub record KnownFailures : Type 0 where
+  pub call : SystemCall
+  pub count : ℕ
+  pub came : List Bool
+  pub told : List Warning
+
+abbrev pub known_of : FailedCalls → KnownFailures
+known_of calls = record { call = calls.call; count = calls.count; came = calls.came; told = told_by calls.teller }
+
+-- none of them failed yet
+abbrev pub none_yet : SystemCall → KnownFailures
+none_yet call = record { call = call; count = 0; came = replicate 256 false; told = [] }
+
+-- the failed reads of a device are told, and none failed yet
 abbrev pub AreReadsTold : Option FailedCalls → Type 0
-AreReadsTold calls = option_map (λ c. c.call) calls ≡ Some Read
+AreReadsTold calls = option_map known_of calls ≡ Some (none_yet Read)
 
 -- what is told of one
 abbrev pub failure_told : FailedCalls → Error → List Warning

@@ -1,5 +1,5 @@
-ghost use Rattle.std.specs.Prelude.{◌≡◌, ◌<◌};
-ghost use Rattle.rly_station.specs.Warnings.{HasCounted, is_call_told, kind_of};
+ghost use Rattle.std.specs.Prelude.{◌≡◌, ◌<◌, false, replicate};
+ghost use Rattle.rly_station.specs.Warnings.{HasCounted, is_call_told, kind_of, known_of, none_yet};
 
 use crate::error_lines::ErrorLines;
 use crate::file_fault::SystemWord;
@@ -26,9 +26,9 @@ pub struct FailedCalls {
 }
 
 impl FailedCalls {
+    /// None of these calls failed yet.
     pub(crate) fn new(call: SystemCall, teller: Teller) -> FailedCalls
-        ensures count { result.count ≡ 0 }
-        ensures call { result.call ≡ call }
+        ensures { result ≡ record { call = call; count = 0; came = replicate 256 false; teller = teller } }
     {
         FailedCalls {
             call,
@@ -40,8 +40,7 @@ impl FailedCalls {
 
     /// The reads of the device, none of which failed yet. They are told on the station's lines.
     pub fn of_reads(lines: Arc<ErrorLines, Global>) -> FailedCalls
-        ensures count { result.count ≡ 0 }
-        ensures call { result.call ≡ SystemCall.Read }
+        ensures { known_of result ≡ none_yet SystemCall.Read }
     {
         FailedCalls::new(SystemCall::Read, Teller::new(lines))
     }

@@ -5,6 +5,7 @@ ghost use Rattle.std.specs.Prelude.{◌≡◌, IfOk, Some, is_some, map, option_
 ghost use Rattle.rly_plan.specs.Sound.{IsSoundPlan};
 ghost use Rattle.rly_station.specs.Duties.{addresses_of, duties, duty_at, duty_of, is_first};
 ghost use Rattle.rly_station.specs.WallClock.{turns_left};
+ghost use Rattle.rly_station.specs.Warnings.{known_of, none_yet};
 
 use crate::address_fault::{AddressFault, End, EndFault};
 use crate::bells::Bells;
@@ -103,7 +104,7 @@ fn socket_of<'a, H: Net + Clock>(
     signals: &Signals,
 ) -> Result<UdpLink<&'a H>, ServeFault>
     ensures addresses { IfOk result (λ link. link.addresses.value ≡ addresses.now) }
-    ensures sends { IfOk result (λ link. option_map (λ f. f.call) link.failed_sends ≡ Some (SystemCall.Send worker)) }
+    ensures sends { IfOk result (λ link. option_map known_of link.failed_sends ≡ Some (none_yet (SystemCall.Send worker))) }
 {
     let bell = bell_of(worker, signals)?;
     let teller = signals.teller()?;
