@@ -52,7 +52,8 @@ pub record HasServedAt {D : Type 0} (state : D → DiskState) (turns others : �
   pub told : Appends begins new (ended_line turns)
 
 abbrev pub HasServed : ℕ → Option (List ℕ) → Type 0
-HasServed turns new = (plan : ContactPlan) × (left : FlusherState FileDisk) × HasServedAt file_state turns 0 new plan left
+HasServed turns new =
+    (plan : ContactPlan) × (left : FlusherState FileDisk) × HasServedAt file_state turns 0 new plan left
 
 -- The same, with reports: all that was written is a report at each moment that was due, of what was answered at a seat
 -- beside those of the workers, in the one history of the device, whose gates were counted.

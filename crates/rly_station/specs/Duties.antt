@@ -35,7 +35,8 @@ abbrev pub addresses_of : ContactPlan → Worker → Option Endpoints
 addresses_of plan (worker.Receiver peer) = option_map (λ n. n.addresses) (peer_at plan peer)
 addresses_of plan (worker.Sender hop) = option_map (λ n. n.addresses) (next_hop_at plan hop)
 
--- what a worker warns of: which calls that fail and what is known of them, whose packets without a right tag, and whether of the clock
+-- what a worker warns of: which calls that fail, with what is known of them, whose packets without a right tag,
+-- and whether of the clock
 pub record Warned : Type 0 where
   pub failures : Option KnownFailures
   pub tags : Worker

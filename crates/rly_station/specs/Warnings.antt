@@ -1,5 +1,5 @@
--- What a station tells of while it serves: sends and reads that fail, packets without a right tag, and a clock that is set
--- (docs/COMMANDS.md, "rly serve").
+-- What a station tells of while it serves: sends and reads that fail, packets without a right tag, and a clock that
+-- is set (docs/COMMANDS.md, "rly serve").
 use Rattle.std.specs.Prelude.{◌≡◌, ℕ, ◌+◌, ◌-◌, ◌%◌, ◌/◌, ◌^◌, ◌==◌, nat_lt, max, min, ℤ, unsigned_abs}
 use Rattle.std.specs.Prelude.{if◌then◌else◌, codes, replicate, slice_index_or}
 use Rattle.std.specs.Prelude.{Bool, true, false, not, ◌&&◌, ◌||◌, List, [], ◌∷◌, ◌++◌, map, set, Option, Some, None}
