@@ -1,5 +1,5 @@
 -- The workers of a plan, and what each has to do.
-use Rattle.std.specs.Prelude.{ℕ, List, ◌++◌, ◌==◌, length, map, Bool, false, is_some, Option, Some}
+use Rattle.std.specs.Prelude.{ℕ, List, ◌++◌, ◌==◌, length, map, Bool, false, is_some, option_and_then, Option, None, Some}
 use Rattle.std.specs.List.{range_with_len}
 use Rattle.std.specs.Option.{option_map}
 use Rattle.rly_plan.specs.ContactPlan.{ContactPlan, next_hop_at, peer_at}
@@ -11,6 +11,7 @@ use Rattle.rly_seal.specs.StationLink.{keys_over, link_below}
 use Rattle.rly_station.specs.Keeping.{keeping_of}
 use Rattle.rly_station.specs.WallClock.{turns_left}
 use Rattle.rly_station.specs.Warnings.{KnownFailures, known_of, none_yet}
+use Rattle.rly_station.specs.declared.clock_watch.Reading.{Reading}
 use Rattle.rly_station.specs.declared.keeping.Keeping.{Keeping}
 use Rattle.rly_station.specs.declared.neighbour_link.NeighbourLink.{NeighbourLink}
 use Rattle.rly_station.specs.declared.plan_keys.KeyedWorker.{KeyedWorker}
@@ -36,11 +37,12 @@ addresses_of plan (worker.Receiver peer) = option_map (λ n. n.addresses) (peer_
 addresses_of plan (worker.Sender hop) = option_map (λ n. n.addresses) (next_hop_at plan hop)
 
 -- what a worker warns of: which calls that fail, with what is known of them, whose packets without a right tag,
--- and whether of the clock
+-- and whether of the clock, with what the clocks showed before
 pub record Warned : Type 0 where
   pub failures : Option KnownFailures
   pub tags : Worker
   pub clock : Bool
+  pub before : Option Reading
 
 -- each warns of its own link, and the receiver of the first peer of the clock
 abbrev pub is_first : Worker → Bool
@@ -48,7 +50,7 @@ is_first (worker.Receiver peer) = peer.0 == 1
 is_first (worker.Sender hop) = false
 
 abbrev pub warned_of : Worker → Warned
-warned_of w = record { failures = Some (none_yet (Send w)); tags = w; clock = is_first w }
+warned_of w = record { failures = Some (none_yet (Send w)); tags = w; clock = is_first w; before = None }
 
 -- a worker, the addresses of its link, the keys over it, what it keeps of early Data, how many
 -- turns it has, and what it warns of
@@ -78,6 +80,7 @@ warned_over below post = record {
   failures = option_map known_of (link_below (below post.link).link.link).failed_sends;
   tags = (below post.link).wrong_tags.worker;
   clock = is_some post.turn.watch;
+  before = option_and_then (λ w. w.before) post.turn.watch;
 }
 
 -- what its link keeps, and between which stations

@@ -1,7 +1,7 @@
 //! The posts of a plan's workers: each with its link over UDP and its turns.
 
 ghost use Rattle.std.specs.Option.{option_map};
-ghost use Rattle.std.specs.Prelude.{◌≡◌, IfOk, Some, is_some, map, option_copied};
+ghost use Rattle.std.specs.Prelude.{◌≡◌, IfOk, None, Some, is_some, map, option_and_then, option_copied};
 ghost use Rattle.rly_plan.specs.Sound.{IsSoundPlan};
 ghost use Rattle.rly_station.specs.Duties.{addresses_of, duties, duty_at, duty_of, is_first};
 ghost use Rattle.rly_station.specs.WallClock.{turns_left};
@@ -137,6 +137,7 @@ fn turn_of<'a, H: Clock>(
 ) -> Result<WallClock<&'a H>, AllocError>
     ensures left { IfOk result (λ turn. turn.left ≡ turns_left turns) }
     ensures watch { IfOk result (λ turn. is_some turn.watch ≡ is_first worker) }
+    ensures unread { IfOk result (λ turn. option_and_then (λ w. w.before) turn.watch ≡ None) }
 {
     let bells = signals.bells()?;
     if !is_first(worker) {
