@@ -10,7 +10,7 @@ RLY = f"{TOP}/crates/rly/out/rly"
 # A run that takes longer than this has failed.
 SECONDS = 60
 # What is told of options whose values are out of their limits, and of a device's file that isn't there.
-BAD_OPTIONS = "refused 21 badgeometry\nrly: options: a value is out of its limits\n"
+BAD_OPTIONS = "refused 21 badgeometry\nrly: options: value out of limits\n"
 NO_DEVICE = "refused 23 device\nrly: device: No such file or directory (os error 2)\n"
 # The worked key of docs/PROTOCOL.md.
 KEY = "000102030405060708090a0b0c0d0e0f101112131415161718191a1b1c1d1e1f\n"

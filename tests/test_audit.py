@@ -149,7 +149,7 @@ class Faults(Audits):
     def test_devices_that_do_not_open(self):
         for place, errors in [
             (0, "refused 20 notadevice\n"),
-            (12, "refused 21 badgeometry\nrly: device: its header has a value out of its limits, or its file is too short\n"),
+            (12, "refused 21 badgeometry\nrly: device: header value out of limits, or file too short\n"),
             (64, "refused 22 damaged 64\n"),
         ]:
             with self.subTest(place=place):

@@ -91,8 +91,8 @@ DAMAGES = [(64, "refused 22 damaged 64\n"), (0, "refused 20 notadevice\n"), (10,
 
 # What is told of a file that is no device, of a device that is a byte too short, and of one that another program has.
 NOT_A_DEVICE = "refused 20 notadevice\n"
-SHORT = "refused 21 badgeometry\nrly: device: its header has a value out of its limits, or its file is too short\n"
-HELD = "refused 23 device\nrly: lock: another program has it\n"
+SHORT = "refused 21 badgeometry\nrly: device: header value out of limits, or file too short\n"
+HELD = "refused 23 device\nrly: lock: locked by another process\n"
 
 
 def living(count):

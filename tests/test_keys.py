@@ -9,15 +9,15 @@ OWNERS = [0o400, 0o600, 0o700]
 SHARED = [(0o640, "40"), (0o604, "4"), (0o620, "20"), (0o601, "1"), (0o644, "44")]
 
 # What is told of a file that isn't of a key's form.
-FORM = "it isn't one line of 64 hex digits, or two"
+FORM = "not one or two lines of 64 hex digits"
 
 # Files that hold no key for a link: their text, their permissions, and what is told of them.
 FAULTS = [
     ("", 0o600, FORM),
     ("00\n", 0o600, FORM),
     (KEY + OTHER + "\n", 0o600, FORM),
-    (KEY, 0o640, "it has permissions 40 for others than its owner"),
-    (KEY, 0o604, "it has permissions 4 for others than its owner"),
+    (KEY, 0o640, "permissions 40 for group or others; must be 0"),
+    (KEY, 0o604, "permissions 4 for group or others; must be 0"),
 ]
 
 # What is told of a file that isn't there.
@@ -80,6 +80,6 @@ class Keys(Rows):
             for mode, others in SHARED:
                 with self.subTest(text, mode=oct(mode)):
                     self.write("hop.key", text, mode)
-                    self.expect_fault(plan, key, f"it has permissions {others} for others than its owner")
+                    self.expect_fault(plan, key, f"permissions {others} for group or others; must be 0")
         self.write("hop.key", "key", 0o600)
         self.expect_fault(plan, key, FORM)

@@ -39,8 +39,8 @@ NO_PLAN = "rly: plan failed\nrly: plan: No such file or directory (os error 2)\n
 
 # Files that hold no key: their text, their permissions, and what is told of them.
 NO_KEYS = [
-    ("00\n", 0o600, "it isn't one line of 64 hex digits, or two"),
-    (KEY, 0o640, "it has permissions 40 for others than its owner"),
+    ("00\n", 0o600, "not one or two lines of 64 hex digits"),
+    (KEY, 0o640, "permissions 40 for group or others; must be 0"),
 ]
 
 # A plan of 64 peers and 64 hops, each of whose links has a key.

@@ -3,7 +3,7 @@ from device_bytes import entry, head, placed_entry
 from journals import FIRST_GROUP, FIRST_TAKE, SIZE, SMALL, STORED, STORED_TAKEN, Journals
 
 NOT_A_DEVICE = "refused 20 notadevice\n"
-BAD_GEOMETRY = "refused 21 badgeometry\nrly: device: its header has a value out of its limits, or its file is too short\n"
+BAD_GEOMETRY = "refused 21 badgeometry\nrly: device: header value out of limits, or file too short\n"
 
 
 def damaged(place):

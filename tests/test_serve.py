@@ -32,13 +32,13 @@ CUSTODY = bytes.fromhex("524c0102000700030000000000000001")
 
 # What is told of a relay of 20 turns on a new small device.
 SERVED = """rly: serving station 7, 1 peers, 1 hops, device 320772 bytes, 0 of 16 live
-rly: anyone can speak on peer 1, hop 1
+rly: links without a key: peer 1, hop 1
 rly: ended after 20 turns
 """
 
 # What is told of one on a small device of two segments whose first write fails.
 BROKEN = """rly: serving station 7, 1 peers, 1 hops, device 165880 bytes, 0 of 16 live
-rly: anyone can speak on peer 1, hop 1
+rly: links without a key: peer 1, hop 1
 refused 11 broken
 rly: room: File too large (os error 27)
 """
@@ -63,7 +63,7 @@ PLANS = [
 ]
 
 # What is told where a plan has more peers or hops than the small device.
-NO_ROOM = "refused 21 badgeometry\nrly: plan: it has more peers or hops than the device\n"
+NO_ROOM = "refused 21 badgeometry\nrly: plan: more peers or hops than the device\n"
 
 # Plans of so many peers and hops whose links have these addresses, and what is told of a relay of theirs on a small device.
 # `FREE` is an address that is free.

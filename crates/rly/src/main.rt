@@ -1,4 +1,5 @@
-//! The program `rly`: its command line, streams and status are those of `rly_daemon::run`.
+//! The program `rly`: hands its command line and streams to `rly_daemon::run`, and exits with its
+//! status.
 #![tactic(auto)]
 
 use rly_daemon::TextFault;
@@ -26,10 +27,10 @@ fn words_of(rt: &HostRuntime) -> io::Result<Vec<String>> {
     Ok(words)
 }
 
-/// Says on standard error why there are no words, and answers the status: 1 where memory was
-/// refused, 2 where a word is no text.
+/// Writes the reason to standard error why there are no words, and returns the status: 1 if memory was refused, 2
+/// if a word is not UTF-8.
 fn tell(rt: &HostRuntime, error: &io::Error) -> u8 {
-    // Nothing is left to tell where even this fails.
+    // Ignore errors: nowhere left to report.
     if error.kind() == ErrorKind::OutOfMemory {
         let _told = writeln!(rt.stderr(), "{}", TextFault::OutOfMemory);
         return 1;

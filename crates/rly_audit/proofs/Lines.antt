@@ -20,7 +20,7 @@ lines_more f text xs i d within =
     ∙ ap (λ k. enumerate_from 1 (take i xs) ++ (k, get_or xs i d) ∷ []) number in
     flat_map_more f text (enumerate_from 1 (take i xs)) (i + 1, get_or xs i d) ∙ ap (λ es. text ++ flat_map f es) (sym last)
 
--- the same, where the line was written after those so far
+-- the same, if the line was appended to those so far
 pub lines_written : {X : Type 0} (f : ℕ × X → List ℕ) (old mid new : List ℕ) (xs : List X) (i number : ℕ) (d : X) → i < length xs → number ≡ i
     → mid ≡ old ++ flat_map f (enumerate_from 1 (take i xs)) → new ≡ mid ++ f (number + 1, get_or xs i d)
     → new ≡ old ++ flat_map f (enumerate_from 1 (take (i + 1) xs))

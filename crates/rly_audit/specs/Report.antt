@@ -1,5 +1,5 @@
--- The report on a state (docs/COMMANDS.md, "rly audit"): a line for each hop, then one for each peer, then the count of
--- accepted commands, and, where the books balance, that they do.
+-- The report on a state (docs/COMMANDS.md, "rly audit"): a line for each hop, then one for each peer, then the
+-- count of accepted commands, and, if the books balance, a line for that.
 use Rattle.std.specs.Prelude.{ℕ, ◌+◌, ◌==◌, Bool, true, false, ◌&&◌, List, [], ◌∷◌, ◌++◌, codes}
 use Rattle.std.specs.Prelude.{map, sum, sum_by}
 use Rattle.std.specs.Fmt.{decimal}
@@ -7,9 +7,9 @@ use Rattle.std.specs.List.{enumerate_from, flat_map, list_all}
 use Rattle.rly_machine.specs.declared.reply.HopStatus.{HopStatus}
 use Rattle.rly_machine.specs.Query.{status_of}
 use Rattle.rly_machine.specs.State.{State}
-use Rattle.rly_reply.specs.Counts.{counts_text, expired_text}
+use Rattle.rly_daemon_reply.specs.Counts.{counts_text, expired_text}
 
--- the numbers that a report tells: those of each hop, the last one taken from each peer, and how many commands were
+-- the numbers in a report: those of each hop, the last number taken from each peer, and how many commands were
 -- accepted
 pub record BooksState : Type 0 where
   pub hops : List HopStatus
@@ -32,15 +32,15 @@ peer_line (number, last) = codes "peer " ++ decimal number ++ codes " last " ++ 
 abbrev pub seq_line : ℕ → List ℕ
 seq_line seq = codes "seq " ++ decimal seq ++ 10 ∷ []
 
--- what a hop took waits, is in flight, was dropped, expired or was released
+-- a hop's books balance: it stored as many as wait, are in flight, were dropped, expired or were released
 abbrev pub hop_balances : HopStatus → Bool
 hop_balances h = h.taken == h.queued + h.flight + h.dropped + h.expired + h.released
 
--- each hop's books balance, and what the peers' numbers count is what the hops took
+-- each hop's books balance, and the peers' numbers sum to the number of stored datagrams
 unfoldable pub balances : BooksState → Bool
 balances b = list_all hop_balances b.hops && sum b.lasts == sum_by (λ h. h.taken) b.hops
 
--- that the books balance, where they do
+-- the line for balanced books, if they balance
 abbrev pub balance_line : Bool → List ℕ
 balance_line true = codes "balance ok" ++ 10 ∷ []
 balance_line false = []

@@ -4,15 +4,15 @@ ghost use Rattle.rly_machine.specs.Query.{status_of};
 ghost use Rattle.rly_audit.specs.Report.{hop_balances, hop_line, hop_lines, peer_line, peer_lines};
 
 use rly_core::{HopId, PeerId};
+use rly_daemon_reply::{Expired, HopCounts};
 use rly_disk::Disk;
 use rly_journal::Journal;
 use rly_machine::{HopStatus, Reply};
-use rly_reply::{Expired, HopCounts};
 use std::alloc::{AllocError, Global};
 use std::fmt;
 use std::marker::Model;
 
-/// The numbers that a report tells of a spool.
+/// The numbers that a report prints of a spool.
 #[derive(Drop)]
 pub(crate) struct Books {
     hops: Vec<HopStatus>,
@@ -47,7 +47,7 @@ impl Books {
         })
     }
 
-    /// Adds the report to a text.
+    /// Appends the report to a text.
     pub(crate) fn write(&self, text: &mut String) -> Result<(), AllocError>
         ensures { OnOk result (string_bytes text.new ≡ string_bytes text.old ++ report_text self.now) }
     {
@@ -61,7 +61,7 @@ impl Books {
         Ok(())
     }
 
-    /// Whether the books balance, by the numbers themselves.
+    /// Whether the books balance, by these numbers.
     #[tactic(auto, unfolding(crate::specs::Report::balances))]
     fn balances(&self) -> bool
         ensures { result ≡ balances self.now }
@@ -100,7 +100,7 @@ fn lasts_of<D: Disk>(alloc: Global, journal: &Journal<D>) -> Result<Vec<u64>, Al
     Ok(lasts)
 }
 
-/// Adds the hops' lines.
+/// Appends the hops' lines.
 fn write_hops(text: &mut String, hops: &[HopStatus]) -> Result<(), AllocError>
     ensures { OnOk result (string_bytes text.new ≡ string_bytes text.old ++ hop_lines hops.now) }
 {
@@ -112,7 +112,7 @@ fn write_hops(text: &mut String, hops: &[HopStatus]) -> Result<(), AllocError>
     Ok(())
 }
 
-/// Adds a hop's line.
+/// Appends a hop's line.
 fn write_hop(text: &mut String, number: u64, status: &HopStatus) -> Result<(), AllocError>
     ensures { OnOk result (string_bytes text.new ≡ string_bytes text.old ++ hop_line (number, status.now)) }
 {
@@ -122,7 +122,7 @@ fn write_hop(text: &mut String, number: u64, status: &HopStatus) -> Result<(), A
     Ok(())
 }
 
-/// Adds the peers' lines.
+/// Appends the peers' lines.
 fn write_peers(text: &mut String, lasts: &[u64]) -> Result<(), AllocError>
     ensures { OnOk result (string_bytes text.new ≡ string_bytes text.old ++ peer_lines lasts.now) }
 {
@@ -134,7 +134,7 @@ fn write_peers(text: &mut String, lasts: &[u64]) -> Result<(), AllocError>
     Ok(())
 }
 
-/// Adds a peer's line.
+/// Appends a peer's line.
 fn write_peer(text: &mut String, number: u64, last: u64) -> Result<(), AllocError>
     ensures { OnOk result (string_bytes text.new ≡ string_bytes text.old ++ peer_line (number, last)) }
 {
@@ -142,14 +142,15 @@ fn write_peer(text: &mut String, number: u64, last: u64) -> Result<(), AllocErro
     Ok(())
 }
 
-/// Whether what each hop took waits, is in flight, was dropped, expired or was released.
+/// Whether each hop's books balance: it stored as many as wait, are in flight, were dropped, expired or were
+/// released.
 fn each_hop_balances(hops: &[HopStatus]) -> bool
     ensures { result ≡ list_all hop_balances hops.now }
 {
     hops.iter().all(hop_is_balanced)
 }
 
-/// Whether what a hop took waits, is in flight, was dropped, expired or was released.
+/// Whether a hop's books balance.
 fn hop_is_balanced(status: &HopStatus) -> bool
     ensures { result ≡ hop_balances status.now }
 {
@@ -161,7 +162,7 @@ fn hop_is_balanced(status: &HopStatus) -> bool
     u128::from(status.taken) == accounted
 }
 
-/// What the hops took in all.
+/// The number of datagrams stored for all hops.
 fn total_taken(hops: &[HopStatus]) -> u128
     ensures { result ≡ sum_by (λ h. h.taken) hops.now }
 {

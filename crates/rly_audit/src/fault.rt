@@ -1,16 +1,16 @@
 use rly_core::Refusal;
-use rly_standing::OpenFault;
-use rly_stream::StreamFault;
+use rly_daemon_reply::StreamFault;
+use rly_journal::OpenFault;
 use std::alloc::AllocError;
 use thiserror::Error;
 
-/// Why there is no whole report. The device reads as before.
+/// The error of an incomplete report. The device reads as before.
 #[derive(Clone, Copy, Debug, PartialEq, Eq, Error)]
 pub enum AuditFault {
     /// The device wasn't opened (20 to 23), or a growth of memory was refused (14). Nothing was written.
     #[error("{0}")]
     Refused(Refusal),
-    /// The writer failed. A prefix of the report was written, but not all.
+    /// The writer failed. A proper prefix of the report was written.
     #[error("rly: output failed")]
     Output,
 }
@@ -18,7 +18,7 @@ pub enum AuditFault {
 impl From<OpenFault> for AuditFault {
     ghost use Rattle.std.specs.Prelude.{◌≡◌};
     ghost use Rattle.rly_audit.specs.declared.fault.AuditFault.TheVariants.{Refused};
-    ghost use Rattle.rly_standing.specs.Faults.{opening_refusal};
+    ghost use Rattle.rly_journal.specs.Faults.{opening_refusal};
 
     ghost from_gives = { λ cause fault. fault ≡ Refused (opening_refusal cause) };
 

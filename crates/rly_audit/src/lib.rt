@@ -1,16 +1,15 @@
-//! The audit: what a device holds, as a report for its operator.
-//!
-//! `audit` opens a device, writes the report on the state that it stands for, and hands the device
-//! back. A report is a function of the state alone (`specs/Report.antt`); `specs/Audit.antt` says
-//! what the call leaves. It takes any disk and any writer. `live_items` counts what lives in an
-//! open journal. Callers: `rly_commands` and `rly_serve`.
+//! The audit: a report on the content of a device, for its operator. `audit` opens a device,
+//! writes the report on its state to any writer, and hands the device back unchanged
+//! (`specs/Audit.antt`). The report is a function of the state alone (`specs/Report.antt`).
+//! `live_items` counts the live datagrams of an open journal. Callers: `rly_daemon_commands` and
+//! `rly_daemon_serve`.
 #![tactic(auto)]
 
-mod auditing;
 mod books;
+mod device_audit;
 mod fault;
 mod live;
 
-pub use crate::auditing::audit;
+pub use crate::device_audit::audit;
 pub use crate::fault::AuditFault;
 pub use crate::live::live_items;

@@ -1,4 +1,4 @@
-//! What lives in a journal.
+//! Counts the live datagrams of a journal.
 
 ghost use Rattle.std.specs.Prelude.{◌≡◌, false};
 ghost use Rattle.rly_machine.specs.State.{live_items};
@@ -8,7 +8,7 @@ use rly_disk::Disk;
 use rly_journal::Journal;
 use rly_machine::Reply;
 
-/// How many datagrams live in a journal that isn't broken.
+/// The number of live datagrams in a journal that isn't broken.
 pub fn live_items<D: Disk>(journal: &Journal<D>) -> u64
     requires { journal.now.broken ≡ false }
     ensures { result ≡ live_items journal.now.state }

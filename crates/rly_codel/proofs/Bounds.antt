@@ -1,19 +1,19 @@
--- What a dequeue keeps, whatever lane and state it is asked of: the last item is never dropped, and the
--- state's moments and counts stay within bounds.
+-- Bounds of a dequeue, for any lane and state: the last item is never dropped, and the state's times and counts stay
+-- within bounds.
 use Rattle.std.proofs.Common.{◌≡◌, ℕ, zero, suc, ◌+◌, ◌-◌, ◌*◌, ◌^◌, ◌<◌, ◌≤◌, max, Bool, true, false, ◌&&◌, nat_eq, nat_lt, if◌then◌else◌, List, [], ◌∷◌, length, refl, arith, inl, inr}
 use Rattle.std.proofs.lemmas.Bool.{cases_Bool, and_parts, ltb-false, ltb-true}
 use Rattle.std.proofs.lemmas.Bool.Decides.{nat_tests}
 use Rattle.rly_core.specs.declared.params.Params.{Params}
 use Rattle.rly_law.specs.ControlLaw.{step_of}
 use Rattle.rly_law.proofs.Steps.{step_of-le}
-use Rattle.rly_codel.specs.Waiting.{Waiting}
+use Rattle.rly_codel.specs.LaneItems.{LaneItem}
 use Rattle.rly_codel.specs.Front.{is_over, front_of, is_armed}
 use Rattle.rly_codel.specs.DropTimes.{drop_time, least_below, drops_due}
-use Rattle.rly_codel.specs.Cases.{Outcome, dequeue_of, unarmed, below_target, phase_begins, phase_goes_on, first_count}
+use Rattle.rly_codel.specs.Cases.{DequeueOutcome, dequeue_of, unarmed_outcome, below_target, phase_begins, phase_goes_on, first_count}
 use Rattle.rly_codel.specs.declared.state.CodelState.{CodelState}
 
 -- the last item isn't over, since nothing waits after it
-front_of-le : (p : Params) (now : ℕ) (item : Waiting) (behind : List Waiting) →
+front_of-le : (p : Params) (now : ℕ) (item : LaneItem) (behind : List LaneItem) →
     front_of p now (item ∷ behind) ≤ length behind
 front_of-le p now item [] =
     elim (cases_Bool (is_over p now item [])) [
@@ -31,24 +31,24 @@ front_of-le p now item (next ∷ behind) =
       | inr below ↦ rw below (omega arith)
     ]
 
--- nothing at all waits in an empty front, and the front of a lane that isn't empty is shorter than the lane
-front_of-lt : (p : Params) (now : ℕ) (q : List Waiting) → 0 < length q → front_of p now q < length q
+-- an empty front has no bytes waiting, and the front of a lane that isn't empty is shorter than the lane
+front_of-lt : (p : Params) (now : ℕ) (q : List LaneItem) → 0 < length q → front_of p now q < length q
 front_of-lt p now [] h = absurd (omega arith)
 front_of-lt p now (item ∷ behind) h =
     let short : front_of p now (item ∷ behind) ≤ length behind = front_of-le p now item behind in omega arith
 
-front_of-empty : (p : Params) (now : ℕ) (q : List Waiting) → length q ≡ 0 → front_of p now q ≡ 0
+front_of-empty : (p : Params) (now : ℕ) (q : List LaneItem) → length q ≡ 0 → front_of p now q ≡ 0
 front_of-empty p now [] h = refl
 front_of-empty p now (item ∷ behind) h = absurd (omega arith)
 
--- a fact that holds of both values holds of the one that a test picks
-both : (P : Outcome → Type 0) (test : Bool) (x y : Outcome) → P x → P y → P (if test then x else y)
+-- a property of both values holds for the one that a test selects
+both : (P : DequeueOutcome → Type 0) (test : Bool) (x y : DequeueOutcome) → P x → P y → P (if test then x else y)
 both P true x y holds_x holds_y = holds_x
 both P false x y holds_x holds_y = holds_y
 
--- a fact holds of a dequeue where it holds of each case
-dequeue_of-cases : (P : Outcome → Type 0) (p : Params) (now : ℕ) (q : List Waiting) (s : CodelState) →
-    P (unarmed p now (front_of p now q) s) → P (below_target s) →
+-- a property of a dequeue follows from that of each case
+dequeue_of-cases : (P : DequeueOutcome → Type 0) (p : Params) (now : ℕ) (q : List LaneItem) (s : CodelState) →
+    P (unarmed_outcome p now (front_of p now q) s) → P (below_target s) →
     (0 < front_of p now q → P (phase_goes_on p now (front_of p now q) s)) →
     (0 < front_of p now q → P (phase_begins p now (front_of p now q) s)) →
     P (dequeue_of p now q s)
@@ -65,7 +65,7 @@ dequeue_of-cases P p now q s idle below goes_on begins =
           ]
     ]
 
--- below the least number that passes nothing passes
+-- no number below the least one that passes passes
 least_below-before : (f : ℕ → Bool) (bound j : ℕ) → j < least_below f bound → f j ≡ false
 least_below-before f zero j h = absurd (omega arith)
 least_below-before f (suc bound) zero h =
@@ -81,8 +81,8 @@ least_below-before f (suc bound) (suc j) h =
           least_below-before (λ i. f (suc i)) bound j (omega arith))
     ]
 
--- a fact holds of a phase that goes on where it holds of a number of drops that are due, and of the whole front
-phase_goes_on-cases : (P : Outcome → Type 0) (p : Params) (now m : ℕ) (s : CodelState) →
+-- a property of a continued phase follows from that of a number of due drops, and of the whole front
+phase_goes_on-cases : (P : DequeueOutcome → Type 0) (p : Params) (now m : ℕ) (s : CodelState) →
     ((k : ℕ) → k < m → ((i : ℕ) → i < k → drop_time (step_of p.interval) s.drop_next s.count i ≤ now) →
     P (record {
       dropped = k;
@@ -122,7 +122,7 @@ drop_time-le p now drop_next count (suc j) short due =
     let spacing : step_of p.interval (count + suc j) ≤ p.interval = step_of-le p.interval (count + suc j) short (omega arith) in
     omega arith
 
--- the count that a phase begins with is at least 1, and at most one more than before
+-- the initial count of a phase is at least 1, and at most one more than the previous count
 first_count-ge : (p : Params) (now : ℕ) (s : CodelState) → (1 ≤ first_count p now s) × (first_count p now s ≤ s.count + 1)
 first_count-ge p now s =
     elim (cases_Bool (nat_lt 1 (s.count - s.lastcount) && nat_lt now (s.drop_next + 16 * p.interval))) [
@@ -132,8 +132,8 @@ first_count-ge p now s =
       | inr one ↦ rw one (omega arith, omega arith)
     ]
 
--- no more is dropped than the front has
-dropped-le : (p : Params) (now : ℕ) (q : List Waiting) (s : CodelState) → (dequeue_of p now q s).dropped ≤ front_of p now q
+-- the drops are at most the front
+dropped-le : (p : Params) (now : ℕ) (q : List LaneItem) (s : CodelState) → (dequeue_of p now q s).dropped ≤ front_of p now q
 dropped-le p now q s =
     dequeue_of-cases (λ o. o.dropped ≤ front_of p now q) p now q s
     (omega arith)
@@ -143,17 +143,17 @@ dropped-le p now q s =
     (λ some. omega arith)
 
 -- the last item is never dropped
-pub dropped-lt : (p : Params) (now : ℕ) (q : List Waiting) (s : CodelState) → 0 < length q →
+pub dropped-lt : (p : Params) (now : ℕ) (q : List LaneItem) (s : CodelState) → 0 < length q →
     (dequeue_of p now q s).dropped < length q
 dropped-lt p now q s h = omega (arith, dropped-le p now q s, front_of-lt p now q h)
 
--- nothing is dropped of nothing
-pub dropped-empty : (p : Params) (now : ℕ) (q : List Waiting) (s : CodelState) → length q ≡ 0 →
+-- an empty lane has no drops
+pub dropped-empty : (p : Params) (now : ℕ) (q : List LaneItem) (s : CodelState) → length q ≡ 0 →
     (dequeue_of p now q s).dropped ≡ 0
 dropped-empty p now q s h = omega (arith, dropped-le p now q s, front_of-empty p now q h)
 
--- first_above_time is what it was, or an interval from now, or 0
-pub first_above_time-le : (p : Params) (now : ℕ) (q : List Waiting) (s : CodelState) →
+-- first_above_time is unchanged, or an interval from now, or 0
+pub first_above_time-le : (p : Params) (now : ℕ) (q : List LaneItem) (s : CodelState) →
     (dequeue_of p now q s).state.first_above_time ≤ max s.first_above_time (now + p.interval)
 first_above_time-le p now q s =
     dequeue_of-cases (λ o. o.state.first_above_time ≤ max s.first_above_time (now + p.interval)) p now q s
@@ -174,8 +174,8 @@ first_above_time-le p now q s =
     begun true = omega arith
     begun false = omega arith
 
--- drop_next is what it was, or at most an interval from now
-pub drop_next-le : (p : Params) (now : ℕ) (q : List Waiting) (s : CodelState) → p.interval < 2 ^ 32 →
+-- drop_next is unchanged, or at most an interval from now
+pub drop_next-le : (p : Params) (now : ℕ) (q : List LaneItem) (s : CodelState) → p.interval < 2 ^ 32 →
     (dequeue_of p now q s).state.drop_next ≤ max s.drop_next (now + p.interval)
 drop_next-le p now q s short =
     dequeue_of-cases (λ o. o.state.drop_next ≤ max s.drop_next (now + p.interval)) p now q s
@@ -191,7 +191,7 @@ drop_next-le p now q s short =
     omega arith)
 
 -- lastcount never passes count
-pub lastcount-le : (p : Params) (now : ℕ) (q : List Waiting) (s : CodelState) → s.lastcount ≤ s.count →
+pub lastcount-le : (p : Params) (now : ℕ) (q : List LaneItem) (s : CodelState) → s.lastcount ≤ s.count →
     (dequeue_of p now q s).state.lastcount ≤ (dequeue_of p now q s).state.count
 lastcount-le p now q s h =
     dequeue_of-cases (λ o. o.state.lastcount ≤ o.state.count) p now q s h h
@@ -199,8 +199,8 @@ lastcount-le p now q s h =
     (λ k below due. omega arith) (λ due. omega arith))
     (λ some. omega arith)
 
--- the count grows by no more than the items dropped
-pub count-le : (p : Params) (now : ℕ) (q : List Waiting) (s : CodelState) →
+-- the count grows by at most the number of items dropped
+pub count-le : (p : Params) (now : ℕ) (q : List LaneItem) (s : CodelState) →
     (dequeue_of p now q s).state.count ≤ s.count + (dequeue_of p now q s).dropped
 count-le p now q s =
     dequeue_of-cases (λ o. o.state.count ≤ s.count + o.dropped) p now q s

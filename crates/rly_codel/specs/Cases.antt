@@ -3,21 +3,21 @@
 use Rattle.std.specs.Prelude.{ℕ, ◌+◌, ◌-◌, ◌*◌, true, false, not, ◌&&◌, nat_eq, nat_lt, if◌then◌else◌, List}
 use Rattle.rly_core.specs.declared.params.Params.{Params}
 use Rattle.rly_law.specs.ControlLaw.{step_of}
-use Rattle.rly_codel.specs.Waiting.{Waiting}
+use Rattle.rly_codel.specs.LaneItems.{LaneItem}
 use Rattle.rly_codel.specs.Front.{front_of, is_armed}
 use Rattle.rly_codel.specs.DropTimes.{drop_time, drops_due}
 use Rattle.rly_codel.specs.declared.state.CodelState.{CodelState}
 
--- what a dequeue comes to: how many items it drops from the front, and the state that it leaves.
--- The item after those dropped, if there is one, is delivered.
-pub record Outcome : Type 0 where
+-- the result of a dequeue: the number of items dropped from the front, and the new state. The next item, if there is
+-- one, is delivered.
+pub record DequeueOutcome : Type 0 where
   pub dropped : ℕ
   pub state : CodelState
 
--- not armed: nothing is dropped. Where the first item is over, the interval begins or goes on;
--- where it isn't, no interval is on.
-abbrev pub unarmed : Params → ℕ → ℕ → CodelState → Outcome
-unarmed p now m s = record {
+-- not armed: nothing is dropped. If the first item is over, the interval begins or continues; if not, no interval is
+-- on.
+abbrev pub unarmed_outcome : Params → ℕ → ℕ → CodelState → DequeueOutcome
+unarmed_outcome p now m s = record {
   dropped = 0;
   state = record s {
     first_above_time =
@@ -29,11 +29,11 @@ unarmed p now m s = record {
 }
 
 -- armed, but the first item isn't over: nothing is dropped
-abbrev pub below_target : CodelState → Outcome
+abbrev pub below_target : CodelState → DequeueOutcome
 below_target s = record { dropped = 0; state = record s { first_above_time = 0; dropping = false } }
 
--- the count that a dropping phase begins with: what the last phase came to, where that is above 1
--- and not 16 intervals ago
+-- the initial count of a dropping phase: the growth of the count in the last phase (the RFC's delta), if that is above
+-- 1 and that phase is less than 16 intervals ago; else 1
 abbrev pub first_count : Params → ℕ → CodelState → ℕ
 first_count p now s =
     if nat_lt 1 (s.count - s.lastcount) && nat_lt now (s.drop_next + 16 * p.interval)
@@ -41,7 +41,7 @@ first_count p now s =
     else 1
 
 -- armed, the first item is over, and no dropping phase is on: it is dropped, and a phase begins
-abbrev pub phase_begins : Params → ℕ → ℕ → CodelState → Outcome
+abbrev pub phase_begins : Params → ℕ → ℕ → CodelState → DequeueOutcome
 phase_begins p now m s = record {
   dropped = 1;
   state = record {
@@ -53,9 +53,9 @@ phase_begins p now m s = record {
   };
 }
 
--- armed, the first item is over, and a dropping phase is on: each drop that is due, as far as the
--- front goes. Where it takes the whole front, the phase ends, and the last drop sets no new time.
-abbrev pub phase_goes_on : Params → ℕ → ℕ → CodelState → Outcome
+-- armed, the first item is over, and a dropping phase is on: each due drop, up to the end of the front. If all of the
+-- front is dropped, the phase ends, and the last drop sets no new time.
+abbrev pub phase_goes_on : Params → ℕ → ℕ → CodelState → DequeueOutcome
 phase_goes_on p now m s =
     let step : ℕ → ℕ = step_of p.interval in
     let k : ℕ = drops_due step now s.drop_next s.count m in
@@ -75,11 +75,11 @@ phase_goes_on p now m s =
     })
 
 -- dequeue by cases
-unfoldable pub dequeue_of : Params → ℕ → List Waiting → CodelState → Outcome
+unfoldable pub dequeue_of : Params → ℕ → List LaneItem → CodelState → DequeueOutcome
 dequeue_of p now queue s =
     let m : ℕ = front_of p now queue in
     if not (is_armed now s)
-    then unarmed p now m s
+    then unarmed_outcome p now m s
     else (if nat_eq m 0
     then below_target s
     else (if s.dropping then phase_goes_on p now m s else phase_begins p now m s))

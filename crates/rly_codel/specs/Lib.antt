@@ -1,4 +1,4 @@
-pub mod Waiting
+pub mod LaneItems
 pub mod Start
 pub mod Front
 pub mod DropTimes

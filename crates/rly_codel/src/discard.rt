@@ -8,8 +8,8 @@ use crate::state::{CodelState, Verdict};
 use rly_core::Params;
 use rly_law::{Control, Plain};
 
-/// Decides how many items at the front of the lane are dropped at `now`, a moment of the lane's
-/// clock, and whether the one after them is delivered (RFC 8289 section 5, `dequeue`).
+/// Returns the number of items to drop from the front of the lane at `now`, a time of the lane's clock, and whether the
+/// next item is delivered (RFC 8289 section 5, `dequeue`). Changes `state` alone.
 pub fn dequeue<L: Lane>(state: &mut CodelState, lane: &L, now: u64, params: &Params) -> Verdict
     requires params { IsWithinLimits params.now }
     requires now { now < 2 ^ 52 }
@@ -29,7 +29,7 @@ pub fn dequeue<L: Lane>(state: &mut CodelState, lane: &L, now: u64, params: &Par
         → result.dropped < length (L.waiting lane.now) }
     ensures empty { length (L.waiting lane.now) ≡ 0 → result.dropped ≡ 0 }
 
-    // What the next call needs.
+    // State for the next call.
     ensures first_above_time { state.new.first_above_time
         ≤ max state.old.first_above_time (now + params.now.interval) }
     ensures drop_next { state.new.drop_next ≤ max state.old.drop_next (now + params.now.interval) }
@@ -39,7 +39,7 @@ pub fn dequeue<L: Lane>(state: &mut CodelState, lane: &L, now: u64, params: &Par
     dequeue_with(state, lane, now, params, &Plain::new(params.interval))
 }
 
-/// The same as `dequeue`, with drop times by a control law that the caller keeps, at the interval of the parameters.
+/// The same as `dequeue`, with drop times from a control law that the caller owns, at the interval of the parameters.
 pub fn dequeue_with<L: Lane, T: Control>(
     state: &mut CodelState,
     lane: &L,
@@ -66,7 +66,7 @@ pub fn dequeue_with<L: Lane, T: Control>(
         → result.dropped < length (L.waiting lane.now) }
     ensures empty { length (L.waiting lane.now) ≡ 0 → result.dropped ≡ 0 }
 
-    // What the next call needs.
+    // State for the next call.
     ensures first_above_time { state.new.first_above_time
         ≤ max state.old.first_above_time (now + params.now.interval) }
     ensures drop_next { state.new.drop_next ≤ max state.old.drop_next (now + params.now.interval) }
@@ -80,7 +80,7 @@ pub fn dequeue_with<L: Lane, T: Control>(
     }
 }
 
-/// Goes along the candidates as the RFC does, and says how many it drops.
+/// Scans the candidates as the RFC does, and returns the number of drops.
 fn drop_from_front<L: Lane, T: Control>(
     state: &mut CodelState,
     lane: &L,
@@ -114,8 +114,8 @@ fn drop_from_front<L: Lane, T: Control>(
     }
 }
 
-/// Whether the candidate at `index`, those before it being gone, may be dropped (RFC 8289
-/// section 5, `dodequeue`). It keeps `first_above_time`.
+/// Returns true iff the candidate at `index`, after the drop of all before it, may be dropped (RFC 8289 section 5,
+/// `dodequeue`). It updates `first_above_time`.
 fn look_at<L: Lane>(
     state: &mut CodelState,
     lane: &L,
@@ -149,7 +149,7 @@ fn look_at<L: Lane>(
     }
 }
 
-/// Whether an item has waited for less than target, or has too little after it to be dropped.
+/// Returns true iff an item has waited for less than target, or too few bytes wait after it for a drop.
 fn is_below_target<L: Lane>(lane: &L, index: usize, now: u64, params: &Params) -> bool
     requires stamps { All (λ item. item.stamp ≤ now) (L.waiting lane.now) }
     requires index { index < length (L.waiting lane.now) }
@@ -161,8 +161,8 @@ fn is_below_target<L: Lane>(lane: &L, index: usize, now: u64, params: &Params) -
     sojourn_time < params.target || lane.bytes_behind(index) <= params.maxpacket
 }
 
-/// Drops what is due in a phase, and says how many items that is. The candidate at the front has
-/// been looked at, and may be dropped where the phase is on.
+/// Drops the items that are due in a phase, and returns their number. The caller has checked the candidate at the
+/// front: it may be dropped if the phase is on.
 fn drop_while_due<L: Lane, T: Control>(
     state: &mut CodelState,
     lane: &L,
@@ -187,8 +187,8 @@ fn drop_while_due<L: Lane, T: Control>(
     dropped
 }
 
-/// Counts one drop of a phase and looks at the candidate at `next`, after the item that is
-/// dropped: where it may be dropped the next drop time is set, and else the phase ends.
+/// Counts one drop of a phase and checks the candidate at `next`, after the dropped item: if it may be dropped, sets
+/// the next drop time, else ends the phase.
 fn count_drop<L: Lane, T: Control>(
     state: &mut CodelState,
     lane: &L,
@@ -216,8 +216,8 @@ fn count_drop<L: Lane, T: Control>(
     }
 }
 
-/// Drops the candidate at the front, and begins a phase with the count that the last one came to,
-/// where that was above 1 and is not 16 intervals ago.
+/// Drops the candidate at the front and begins a phase. Its initial count is the growth of the count in the last phase,
+/// if that is above 1 and that phase is less than 16 intervals ago, else 1.
 fn enter_phase<L: Lane, T: Control>(
     state: &mut CodelState,
     lane: &L,

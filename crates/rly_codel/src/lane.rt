@@ -1,23 +1,23 @@
 ghost use Rattle.std.specs.Prelude.{◌≡◌, ◌+◌, ◌<◌, List, length, drop, HoldsAt};
-ghost use Rattle.rly_codel.specs.Waiting.{Waiting, waiting_bytes};
+ghost use Rattle.rly_codel.specs.LaneItems.{LaneItem, lane_bytes};
 
-/// A queue that CoDel looks at: items from the front on, each with a stamp and a payload length.
+/// A queue as CoDel sees it: items from the front on, each with a stamp and a payload length.
 pub trait Lane {
     /// The waiting items, the front first.
-    ghost waiting: { Self → List Waiting };
+    ghost waiting: { Self → List LaneItem };
 
-    /// How many items wait.
+    /// Returns the number of waiting items.
     fn count(&self) -> usize
         ensures { result ≡ length (waiting self.now) };
 
-    /// When an item came, in microseconds.
+    /// Returns the time at which an item came, in microseconds.
     fn stamp(&self, index: usize) -> u64
         requires { index < length (waiting self.now) }
         ensures { HoldsAt (λ item. item.stamp ≡ result) (waiting self.now) index };
 
-    /// How many payload bytes the items after an item have, its own not among them. It is asked once for each item that may be
-    /// dropped, so it is told without a look at those.
+    /// Returns the number of payload bytes after an item, without its own. CoDel calls it once for each drop candidate,
+    /// so it should not scan those items.
     fn bytes_behind(&self, index: usize) -> u64
         requires { index < length (waiting self.now) }
-        ensures { result ≡ waiting_bytes (drop (index + 1) (waiting self.now)) };
+        ensures { result ≡ lane_bytes (drop (index + 1) (waiting self.now)) };
 }

@@ -1,10 +1,9 @@
-//! CoDel's dequeue (RFC 8289 section 5): how many items at the front of a lane are dropped before
-//! one is delivered, and the state that is left.
+//! CoDel's dequeue (RFC 8289 section 5): the number of items to drop from the front of a lane
+//! before one is delivered, and the new state.
 //!
-//! `dequeue` meets `specs/Cases.antt`, a table of five cases without a loop. `specs/Loop.antt` is
-//! the RFC's pseudocode, and `law_cases_are_the_loop` says that both agree. It takes no memory,
-//! asks a `Lane` for what waits, and asks a `Control` of `rly_law` for drop times. `dequeue_with`
-//! is the same with a `Control` that the caller keeps. Caller: `rly_machine`.
+//! `dequeue` meets `specs/Cases.antt`, a table of cases without a loop; `law_cases_are_the_loop`
+//! proves it equal to the RFC's pseudocode. A `Lane` shows it the queue; `dequeue_with` takes drop
+//! times from the caller's `Control` of `rly_law`. Caller: `rly_machine`.
 #![tactic(auto)]
 
 mod discard;

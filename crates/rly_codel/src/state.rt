@@ -1,21 +1,21 @@
-/// The state of CoDel for one lane, with the RFC's names (RFC 8289 section 5). A new one has every
-/// number 0 and isn't dropping. Moments are microseconds.
+/// The state of CoDel for one lane, with the RFC's names (RFC 8289 section 5). In a new state every number is 0 and no
+/// phase is on. Times are microseconds.
 #[derive(Clone, Copy, PartialEq, Eq)]
 pub struct CodelState {
-    /// When items will have been over for an interval; 0 where the last candidate wasn't over.
+    /// The time at which items will have been over for an interval; 0 if the last candidate wasn't over.
     pub first_above_time: u64,
-    /// When the next drop of the phase is due; of a phase that ended, when its last one was.
+    /// The time of the next drop of the phase; of the last drop, if the phase has ended.
     pub drop_next: u64,
-    /// The drops since the phase began, and the count that it began with.
+    /// The drops since the phase began, plus its initial count.
     pub count: u64,
-    /// The count that the last phase began with.
+    /// The initial count of the last phase.
     pub lastcount: u64,
-    /// Whether a dropping phase is on.
+    /// True while a dropping phase is on.
     pub dropping: bool,
 }
 
 impl CodelState {
-    /// The state of a lane that no dequeue was asked of yet.
+    /// The state of a lane before its first dequeue.
     pub const NEW: CodelState = CodelState {
         first_above_time: 0,
         drop_next: 0,
@@ -36,11 +36,11 @@ impl Default for CodelState {
     }
 }
 
-/// What a dequeue decided.
+/// The decision of a dequeue.
 #[derive(Clone, Copy, PartialEq, Eq)]
 pub struct Verdict {
-    /// How many items at the front are dropped.
+    /// The number of items to drop from the front.
     pub dropped: usize,
-    /// Whether the item after them is there, and delivered.
+    /// True iff a next item exists and is delivered.
     pub delivered: bool,
 }

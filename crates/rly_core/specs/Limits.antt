@@ -1,4 +1,4 @@
--- The limits of a spool's parameters, and the parameters for which none were given.
+-- The limits of a spool's parameters, and the default parameters.
 use Rattle.rly_core.specs.Bounds.{IsIn}
 use Rattle.rly_core.specs.declared.params.Params.{Params}
 
@@ -14,7 +14,7 @@ pub record IsWithinLimits (p : Params) : Type 0 where
   pub target : IsIn 1 p.interval p.target
   pub payload : IsIn 1 8192 p.payload
 
--- the parameters for which none were given
+-- the default parameters
 abbrev pub default_params : Params
 default_params = record {
   hops = 4;

@@ -83,7 +83,7 @@ text_of Overlap = codes "plan"
 text_of Range = codes "plan"
 text_of Unknown = codes "plan"
 
--- what the line says after the text: a space and the value, where there is one
+-- the line's suffix after the text: a space and the value, if the refusal carries one
 abbrev pub value_of : Refusal → List ℕ
 value_of NoSuchPeer = []
 value_of NoSuchHop = []

@@ -1,9 +1,8 @@
-//! What every crate of the relay speaks of: ids, the parameters of a spool and their limits, the
-//! geometry of a device, and the refusals with their numbers and texts.
+//! Types that every crate of the relay uses: ids, the parameters of a spool with their limits, the
+//! geometry of a device, and the refusals (error replies) with their numbers and texts.
 //!
-//! `Params::check` answers `Ok` exactly within the limits (`specs/Limits.antt`). `Refusal`
-//! displays as the line that the program prints for it (`specs/Refusals.antt`). It takes no
-//! memory and no handle; every crate may call it.
+//! `Params::check` returns `Ok` iff each parameter is within its limits (`specs/Limits.antt`).
+//! `Refusal` displays as the line that the program prints (`specs/Refusals.antt`).
 #![tactic(auto)]
 
 mod ids;

@@ -2,74 +2,73 @@
 
 ghost use Rattle.std.specs.Prelude.{◌≡◌, ◌-◌, ◌^◌};
 
-/// The most hops of a spool.
+/// Maximum number of hops of a spool.
 pub const MAX_HOPS: u64 = 64;
 
-/// The most peers of a spool.
+/// Maximum number of peers of a spool.
 pub const MAX_PEERS: u64 = 64;
 
-/// The longest payload that a spool may be made for, in bytes.
+/// Maximum payload length that a spool can be configured for, in bytes.
 pub const MAX_PAYLOAD: u64 = 8_192;
 
-/// The most datagrams in flight for one hop.
+/// Maximum number of datagrams in flight for one hop.
 pub const MAX_WINDOW: u64 = 64;
 
-/// The most calls in one round of a journal.
+/// Maximum number of calls in one round of a journal.
 pub const MAX_ROUND: u64 = 64;
 
-/// The most live datagrams of a spool.
+/// Maximum number of live datagrams of a spool.
 pub const MAX_ITEMS: u64 = 16_384;
 
-/// The most live payload bytes of a spool.
+/// Maximum number of live payload bytes of a spool.
 pub const MAX_BYTES: u64 = 16_777_216;
 
-/// The fewest segments that the format allows.
+/// Minimum number of segments of a device.
 pub const MIN_SEGMENTS: u64 = 2;
 
-/// The most segments that the format allows.
+/// Maximum number of segments of a device.
 pub const MAX_SEGMENTS: u64 = 256;
 
 /// Every segment is shorter than this, in bytes.
 pub const SEGMENT_LENGTH_LIMIT: u64 = 2_147_483_648;
 
-/// The longest interval of CoDel, in microseconds: one hour.
+/// Maximum interval of CoDel, in microseconds: one hour.
 pub const MAX_INTERVAL: u64 = 3_600_000_000;
 
-/// The greatest `maxpacket` of CoDel, in bytes.
+/// Maximum `maxpacket` of CoDel, in bytes.
 pub const MAX_MAXPACKET: u64 = 65_535;
 
-/// Every moment is below this, in microseconds: 2 to the power of 52.
+/// Every time is below this, in microseconds: 2 to the power of 52.
 pub const MOMENT_LIMIT: u64 = 4_503_599_627_370_496;
 
 /// Every age limit of a datagram is below this, in microseconds of a link clock: 2 to the power of 40, over 12 days.
 pub const AGE_LIMIT: u64 = 1_099_511_627_776;
 
-/// The most accepted commands in the life of a spool: 2 to the power of 48, less 1.
+/// Maximum number of accepted commands in the life of a spool: 2 to the power of 48, less 1.
 pub const MAX_SEQ: u64 = 281_474_976_710_655;
 
-/// The most seats of a submission line.
+/// Maximum number of seats (client handles) of a submission queue.
 pub const MAX_SEATS: u64 = 256;
 
-/// The most calls that wait in a submission line.
+/// Maximum number of calls that wait in a submission queue.
 pub const MAX_CAPACITY: u64 = 256;
 
-/// The most contacts of one hop.
+/// Maximum number of contacts of one hop.
 pub const MAX_CONTACTS: u64 = 4_096;
 
-/// The least `resend` of a hop, in milliseconds.
+/// Minimum `resend` of a hop, in milliseconds.
 pub const MIN_RESEND: u64 = 10;
 
-/// The greatest `resend` of a hop, in milliseconds: one hour.
+/// Maximum `resend` of a hop, in milliseconds: one hour.
 pub const MAX_RESEND: u64 = 3_600_000;
 
-/// The `resend` of a hop whose plan doesn't say it, in milliseconds.
+/// Default `resend` of a hop, in milliseconds, if the plan omits it.
 pub const DEFAULT_RESEND: u64 = 160;
 
-/// The longest command line, in bytes without its newline.
+/// Maximum length of a command line, in bytes without its newline.
 pub const MAX_LINE: u64 = 20_480;
 
-/// Each limit is the number of `docs/DEFINITIONS.md`. Definitions of the crates above name some of these constants,
-/// and other limits are compared with nothing, so that no contract there would refuse another number.
+/// Each limit has the value of `docs/DEFINITIONS.md`. This law fixes the limits that no other contract cites.
 pub fn law_limits()
     ensures hops { MAX_HOPS ≡ 64 }
     ensures peers { MAX_PEERS ≡ 64 }

@@ -4,36 +4,36 @@ ghost use Rattle.rly_core.specs.Bounds.{IsIn};
 use crate::limits;
 use crate::refusal::Refusal;
 
-/// The parameters of a spool. They are numbers of 64 bits so that a value out of its limits can be
-/// told before anything narrows it.
+/// The parameters of a spool. All are 64 bits wide, so that `check` sees an out-of-range value before any code narrows
+/// it.
 #[derive(Clone, Copy, Debug, PartialEq, Eq)]
 pub struct Params {
-    /// Next hops, 1 to 64.
+    /// Number of next hops, 1 to 64.
     pub hops: u64,
-    /// Upstream neighbours, 1 to 64.
+    /// Number of upstream neighbours, 1 to 64.
     pub peers: u64,
-    /// Datagrams in flight for one hop, 1 to 64.
+    /// Maximum number of datagrams in flight for one hop, 1 to 64.
     pub window: u64,
-    /// Live datagrams, 1 to 16,384.
+    /// Maximum number of live datagrams, 1 to 16,384.
     pub items: u64,
-    /// Live payload bytes, 1 to 16,777,216.
+    /// Maximum number of live payload bytes, 1 to 16,777,216.
     pub bytes: u64,
-    /// CoDel drops nothing while at most this many payload bytes wait after a datagram
-    /// (RFC 8289 section 5, `maxpacket`), 0 to 65,535 bytes.
+    /// CoDel drops nothing while at most this many payload bytes wait after a datagram (RFC 8289 section 5,
+    /// `maxpacket`), 0 to 65,535 bytes.
     pub maxpacket: u64,
     /// The acceptable waiting time (RFC 8289 section 4.4, `TARGET`), 1 to interval microseconds.
     pub target: u64,
     /// The time over which waiting is measured (RFC 8289 section 4.3, `INTERVAL`), 1 to
     /// 3,600,000,000 microseconds.
     pub interval: u64,
-    /// The longest payload, in bytes, 1 to 8,192.
+    /// Maximum payload length, in bytes, 1 to 8,192.
     pub payload: u64,
 }
 
 impl Params {
     ghost use Rattle.rly_core.specs.Limits.{IsWithinLimits};
 
-    /// The parameters of a spool for which none were given.
+    /// The default parameters.
     pub const DEFAULT: Params = Params {
         hops: 4,
         peers: 4,
@@ -46,7 +46,7 @@ impl Params {
         payload: 1_200,
     };
 
-    /// Whether each parameter is within its limits. The only refusal is `BadGeometry`.
+    /// Returns `Ok` iff each parameter is within its limits; the only error is `BadGeometry`.
     pub fn check(&self) -> Result<(), Refusal>
         ensures exactly { IsOk result ↔ IsWithinLimits self.now }
         ensures refusal { IsOkUnless result Refusal.BadGeometry }
@@ -79,19 +79,19 @@ impl Default for Params {
     }
 }
 
-/// Whether a value lies from `least` to `greatest`.
+/// Returns true iff `least <= value <= greatest`.
 fn in_range(value: u64, least: u64, greatest: u64) -> bool
     ensures { IsTrue result ↔ IsIn least greatest value }
 {
     least <= value && value <= greatest
 }
 
-/// The shape of a device: the parameters of its spool, and the segments that it is divided into.
+/// The layout of a device: the parameters of its spool, and its segments.
 #[derive(Clone, Copy, PartialEq, Eq)]
 pub struct Geometry {
     /// The parameters of the spool.
     pub params: Params,
-    /// Segments of the device, 2 to 256.
+    /// Number of segments of the device, 2 to 256.
     pub segments: u64,
     /// The length of each segment, in bytes, below 2^31.
     pub length: u64,

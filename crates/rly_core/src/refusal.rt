@@ -5,75 +5,75 @@ ghost use Rattle.rly_core.specs.Refusals.{number_of, refusal_line, text_of};
 
 use std::fmt;
 
-/// Every answer that refuses. It displays as `refused`, its number, its text and, where it carries
-/// one, its value (`docs/COMMANDS.md`, "Refusals").
+/// The refusals (error replies). A refusal displays as `refused`, its number, its text and its value, if it carries one
+/// (`docs/COMMANDS.md`, "Refusals").
 #[derive(Clone, Copy, Debug, PartialEq, Eq)]
 pub enum Refusal {
-    /// 1: there is no such peer.
+    /// 1: the peer doesn't exist.
     NoSuchPeer,
-    /// 2: there is no such hop.
+    /// 2: the hop doesn't exist.
     NoSuchHop,
-    /// 3: a moment of 2^52 microseconds or more, or an age limit of 2^40 or more.
+    /// 3: a time of 2^52 microseconds or more, or an age limit of 2^40 or more.
     BadMoment,
-    /// 4: a peer's number left one out; carries the number that was expected.
+    /// 4: a peer skipped a sequence number; carries the expected number.
     Gap(u64),
-    /// 5: a payload longer than the longest of the spool.
+    /// 5: the payload is longer than the spool's maximum.
     TooLong,
     /// 6: the spool has no room for the datagram.
     Full,
-    /// 7: as many datagrams are in flight as the window allows.
+    /// 7: the window of the hop is full.
     WindowFull,
-    /// 8: nothing waits, and CoDel is idle.
+    /// 8: the queue is empty, and CoDel is idle.
     Empty,
-    /// 9: a custody number that was never given.
+    /// 9: a custody number that was never assigned.
     NeverSent,
     /// 10: a custody number that is no longer in flight.
     NotInFlight,
-    /// 11: the journal is Broken, and answers nothing else until it is opened again.
+    /// 11: the journal is Broken: it refuses every call until it is reopened.
     Broken,
-    /// 12: the device failed in this round; the command may or may not stand after reopening.
+    /// 12: the device failed in this round; after reopening, the command may or may not be applied.
     Unsure,
     /// 13: a read of the device failed; nothing changed.
     DeviceRead,
-    /// 14: a growth of memory was refused; nothing changed.
+    /// 14: memory allocation failed; nothing changed.
     OutOfMemory,
-    /// 15: all 2^48 - 1 commands of a spool's life are spent.
+    /// 15: all 2^48 - 1 sequence numbers of the spool are used.
     Spent,
-    /// 16: the text is no command.
+    /// 16: the text is not a command.
     Line,
-    /// 20: the device's first bytes are no header of this format.
+    /// 20: the device doesn't begin with a header of this format.
     NotADevice,
-    /// 21: parameters or a geometry out of the limits.
+    /// 21: parameters or a geometry outside the limits.
     BadGeometry,
-    /// 22: the bytes at this place of the device stand for nothing.
+    /// 22: the bytes at this offset of the device are damaged.
     Damaged(u64),
     /// 23: a call of the device failed.
     Device,
-    /// 30: the call was not put, and is handed back.
+    /// 30: the call was not submitted, and is returned to the caller.
     Closed,
-    /// 31: the call was put and no answer came; it may or may not stand.
+    /// 31: the call was submitted but got no reply; it may or may not have been applied.
     Lost,
-    /// 40: a message that ends too early.
+    /// 40: the message is too short.
     Short,
-    /// 41: a message that is too long.
+    /// 41: the message is too long.
     Long,
-    /// 42: a message that doesn't begin with the protocol's two bytes.
+    /// 42: the message doesn't begin with the protocol's two magic bytes.
     Magic,
-    /// 43: a message of another version.
+    /// 43: the message has another protocol version.
     Version,
-    /// 44: a message of no known kind.
+    /// 44: the message has an unknown kind.
     Kind,
-    /// 45: a message from or to station 0.
+    /// 45: the message names station 0 as its source or destination.
     Station,
-    /// 50: a plan that isn't TOML, or lacks a key, or has a value of another type.
+    /// 50: the plan isn't TOML, lacks a key, or has a value of the wrong type.
     Syntax,
-    /// 51: a contact that begins before the one before it begins.
+    /// 51: a contact begins before its predecessor begins.
     Unsorted,
-    /// 52: contacts that overlap, or a station or destination that is there twice.
+    /// 52: contacts overlap, or a station or destination is listed twice.
     Overlap,
-    /// 53: a number of the plan out of its range.
+    /// 53: a number of the plan is out of range.
     Range,
-    /// 54: a key that isn't known, or a route to a hop that isn't there.
+    /// 54: an unknown key, or a route to a hop that doesn't exist.
     Unknown,
 }
 

@@ -1,4 +1,4 @@
--- Where segments begin: at multiples of their length after the first.
+-- The addresses of segments: multiples of their length after the first.
 use Rattle.std.proofs.Common.{◌≡◌, ◌∙◌, ℕ, ◌+◌, ◌*◌, ◌-◌, ◌%◌, ◌/◌, ◌≤◌, IsTrue, nat_eq, arith, ap}
 use Rattle.std.proofs.Math.Nat.{add-sub_cancel_left, div-add-mod, mul-mod_left, mul_comm}
 use Rattle.std.proofs.lemmas.Bool.{eq-eqb, eqb-true}

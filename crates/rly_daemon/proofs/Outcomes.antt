@@ -1,4 +1,4 @@
--- What holds of a good outcome.
+-- Properties of a good outcome.
 use Rattle.std.proofs.Common.{◌≡◌, ◌∙◌, ℕ, ◌+◌, ap, arith, false}
 use Rattle.std.specs.Prelude.{Err, Ok, OnOk, Result}
 use Rattle.rly_journal.specs.Journal.{JournalState}
@@ -12,7 +12,7 @@ pub then_both : {A E X Y Z : Type 0} (r : Result A E) → OnOk r X → OnOk r Y 
 then_both (Ok a) x y f = f x y
 then_both (Err e) x y f = tt
 
--- a journal that is left whole, and a count, apart from all that is known where they are used
+-- a journal that is left whole, and a count, without the context of its use
 pub left_whole : {D : Type 0} (left journal : JournalState D) → left ≡ journal → journal.broken ≡ false → left.broken ≡ false
 left_whole {D} left journal same whole = ap (λ (j : JournalState D). j.broken) same ∙ whole
 

@@ -1,4 +1,4 @@
--- What contracts see of a disk whose gates are counted: that of the disk in it.
+-- The model of a disk that counts its gates: that of the wrapped disk.
 use Rattle.rly_disk.specs.DiskModel.{DiskState}
 use Rattle.rly_daemon.specs.declared.counted_disk.CountedDisk.{CountedDisk}
 

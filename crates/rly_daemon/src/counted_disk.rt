@@ -1,20 +1,20 @@
-//! A disk whose gates are counted, for a station that reports.
+//! A disk that counts its commit bytes (gates), for a station that reports.
 
 ghost use Rattle.std.specs.Prelude.{◌≡◌};
 
 use crate::gate_tally::GateTally;
 use rly_disk::{Disk, DiskFault};
 
-/// A disk that does what the disk in it does, and counts the gates that are opened on it.
+/// Wraps a disk, and counts the gates opened on it.
 #[derive(Drop)]
 pub struct CountedDisk<D> {
     inner: D,
-    /// Where they are counted, if they are.
+    /// Their counters, if they are counted.
     gates: Option<GateTally>,
 }
 
 impl<D: Disk> CountedDisk<D> {
-    /// The gates of this disk are counted from now on, if it is told where.
+    /// Counts the gates of this disk from now on, if there is a tally.
     pub(crate) fn new(inner: D, gates: Option<GateTally>) -> CountedDisk<D>
         ensures { result ≡ record { inner = inner; gates = gates } }
     {

@@ -1,4 +1,4 @@
-//! What a station that reports counts of the gates that it opens.
+//! The counts of opened gates, for a station that reports.
 
 ghost use Rattle.std.specs.Prelude.{◌≡◌, ◌≢◌, ◌+◌, ◌*◌, ◌<◌, ◌≤◌, ◌^◌, ◌↔◌, ◌∷◌, [], IsTrue, ℕ};
 ghost use Rattle.rly_daemon.specs.Gates.{BeginsSegment, one_more};
@@ -6,16 +6,16 @@ ghost use Rattle.rly_gate.specs.Group.{open_gate};
 ghost use Rattle.rly_segment.specs.Heads.{segment_place};
 
 use rly_core::Geometry;
+use rly_daemon_reporter::Tally;
 use rly_gate::OPEN_GATE;
-use rly_reporter::Tally;
 use rly_segment::segment_place;
 use std::alloc::Global;
 use std::sync::Arc;
 
-/// Counts the gates that are opened on a device: a segment's, or that of a group, which a round wrote.
+/// Counts the gates opened on a device: those of segments, and those of the groups that rounds write.
 #[derive(Drop)]
 pub(crate) struct GateTally {
-    /// Where the first segment begins, and the length of each.
+    /// The device address of the first segment, and the length of each.
     first: u64,
     length: u64,
     rounds: u64,
@@ -24,7 +24,7 @@ pub(crate) struct GateTally {
 }
 
 impl GateTally {
-    /// Nothing was opened yet on a device of this geometry.
+    /// Zero counts, for a device of this geometry.
     pub(crate) fn new(geometry: &Geometry, tally: Arc<Tally, Global>) -> GateTally
         requires { geometry.now.length < 2 ^ 31 }
         ensures segments { (result.first ≡ segment_place geometry.now 0) × (result.length ≡ geometry.now.length) }
@@ -39,7 +39,7 @@ impl GateTally {
         }
     }
 
-    /// These bytes were written at a place.
+    /// These bytes were written at a device address.
     pub(crate) fn note(&mut self, place: u64, bytes: &[u8])
         ensures closed { bytes.now ≢ open_gate ∷ [] → self.new ≡ self.old }
         ensures segment { 1 ≤ self.old.length → bytes.now ≡ open_gate ∷ [] → BeginsSegment self.old place
@@ -59,7 +59,7 @@ impl GateTally {
     }
 
     #[tactic(auto, using(crate::proofs::Beginnings::begins_there, crate::proofs::Beginnings::there_begins))]
-    /// Whether a segment begins at a place, so that the gate there is the segment's.
+    /// Whether a segment begins at a device address, so that a gate there is the segment's.
     fn begins_segment(&self, place: u64) -> bool
         ensures { 1 ≤ self.now.length → IsTrue result ↔ BeginsSegment self.now place }
     {

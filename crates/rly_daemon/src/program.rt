@@ -1,17 +1,19 @@
 //! The program: its command line, its commands and its status.
 
 ghost use Rattle.std.specs.Prelude.{◌≡◌, ◌≤◌, ◌⊎◌, [], Err, OnOk, map};
-ghost use Rattle.rly_settings.specs.CommandLine.{AsksHelp, IsSettings, asked_of, kinds_at};
-ghost use Rattle.rly_settings.specs.declared.given.Settings.{Settings as ASettings};
+ghost use Rattle.rly_daemon_args.specs.CommandLine.{AsksHelp, IsSettings, asked_of, kinds_at};
+ghost use Rattle.rly_daemon_args.specs.declared.given.Settings.{Settings as ASettings};
 ghost use Rattle.rly_daemon.specs.Helpers.{WasAsked};
 ghost use Rattle.rly_daemon.specs.Program.{IsDone, IsOutOfLimits};
 
-use crate::serving::run_serving;
-use rly_commands::{CommandFault, run_audit, run_format, run_plan, run_play, run_sim, write_key};
+use crate::serve_command::run_serving;
 use rly_core::Refusal;
-use rly_settings::{Settings, SettingsFault, settings};
+use rly_daemon_args::{Settings, SettingsFault, settings};
+use rly_daemon_commands::{
+    CommandFault, run_audit, run_format, run_plan, run_play, run_sim, write_key,
+};
+use rly_daemon_lines::TextFault;
 use rly_station::Cause;
-use rly_text::TextFault;
 use std::convert::AsStr;
 use std::fmt::Display;
 use std::fs::{File, Files};
@@ -22,8 +24,8 @@ use std::sync::Wait;
 use std::thread::Threads;
 use std::time::Clock;
 
-/// What the whole program needs of its runtime. Only `rly serve` uses the network, and starts threads
-/// and waits for them; only `rly key` uses randomness.
+/// The requirements of the program on its runtime. Only `rly serve` uses the network, and starts threads and waits
+/// for them; only `rly key` uses randomness.
 pub trait Host: AllocGlobal
     + Files<File = File>
     + Net
@@ -36,9 +38,9 @@ pub trait Host: AllocGlobal
 impl<H: AllocGlobal + Files<File = File> + Net + Threads + Wait + Clock + RandomSource + Sync> Host
     for H {}
 
-/// Runs the whole program on a command line, the program's name first, and answers its exit
-/// status: 0, also where reply lines refuse; 1 where a command failed, or a journal ended Broken;
-/// 2 for a bad command line. Replies, help and version go to `writer`, why it failed to `errors`.
+/// Runs the program on a command line, the program's name first, and returns its exit status: 0, even if reply
+/// lines are refusals; 1 if a command failed, or a journal ended broken; 2 for a bad command line. Replies, help
+/// and version go to `writer`, errors to `errors`.
 pub fn run<H: Host, S: AsStr, R: Read, W: Write + Send, E: Write>(
     rt: &H,
     words: &[S],
@@ -47,11 +49,12 @@ pub fn run<H: Host, S: AsStr, R: Read, W: Write + Send, E: Write>(
     errors: &mut E,
 ) -> u8
     ensures status { result ≤ 2 }
-    // A bad command line is refused before anything is read or written but why.
+    // A bad command line is refused before anything is read, and writes only the reason.
     ensures bad { result ≡ 2 → (reader.new ≡ reader.old) × (writer.new ≡ writer.old) }
-    // Where it ends well, the words ask for help or the version, or what they ask for was done.
+    // If it succeeds, the words ask for help or the version, or their command was executed.
     ensures done { result ≡ 0 → (AsksHelp (map S.text words.now) × (reader.new ≡ reader.old))
-        ⊎ ((settings : ASettings) × IsSettings (asked_of (map S.text words.now)) settings × (kinds_at (map S.text words.now) ≡ [])
+        ⊎ ((settings : ASettings) × IsSettings (asked_of (map S.text words.now)) settings
+        × (kinds_at (map S.text words.now) ≡ [])
         × IsDone settings reader.old reader.new (R.remaining reader.old) (W.contents writer.old) (W.contents writer.new)
         (E.contents errors.old) (E.contents errors.new)) }
 {
@@ -60,12 +63,16 @@ pub fn run<H: Host, S: AsStr, R: Read, W: Write + Send, E: Write>(
             Ok(()) => 0,
             Err(fault) => fail(&fault, errors),
         },
-        Err(fault) => tell_unsettled(&fault, writer, errors),
+        Err(fault) => report_settings_fault(&fault, writer, errors),
     }
 }
 
-/// Says why a command line gives no settings, or what it asks, and answers the status.
-fn tell_unsettled<W: Write, E: Write>(fault: &SettingsFault, writer: &mut W, errors: &mut E) -> u8
+/// Writes the reason why a command line gives no settings, or the requested help, and returns the status.
+fn report_settings_fault<W: Write, E: Write>(
+    fault: &SettingsFault,
+    writer: &mut W,
+    errors: &mut E,
+) -> u8
     ensures status { result ≤ 2 }
     ensures bad { result ≡ 2 → writer.new ≡ writer.old }
     ensures asked { result ≡ 0 → WasAsked fault.now }
@@ -85,9 +92,12 @@ fn obey<H: Host, R: Read, W: Write + Send, E: Write>(
     writer: &mut W,
     errors: &mut E,
 ) -> Result<(), CommandFault>
-    ensures done { OnOk result (IsDone settings.entry reader.old reader.new (R.remaining reader.old) (W.contents writer.old) (W.contents writer.new)
+    ensures done { OnOk result
+        (IsDone settings.entry reader.old reader.new (R.remaining reader.old) (W.contents writer.old)
+        (W.contents writer.new)
         (E.contents errors.old) (E.contents errors.new)) }
-    ensures refused { IsOutOfLimits settings.entry → (result ≡ Err (CommandFault.Refused Refusal.BadGeometry Cause.Options))
+    ensures refused { IsOutOfLimits settings.entry
+        → (result ≡ Err (CommandFault.Refused Refusal.BadGeometry Cause.Options))
         × (reader.new ≡ reader.old) × (writer.new ≡ writer.old) }
 {
     match settings {
@@ -115,7 +125,7 @@ fn obey<H: Host, R: Read, W: Write + Send, E: Write>(
     }
 }
 
-/// Shows help or the version, and answers the status.
+/// Writes help or the version, and returns the status.
 fn show<T: Display, W: Write, E: Write>(text: &T, writer: &mut W, errors: &mut E) -> u8
     ensures { result ≤ 1 }
 {
@@ -126,20 +136,20 @@ fn show<T: Display, W: Write, E: Write>(text: &T, writer: &mut W, errors: &mut E
     }
 }
 
-/// Writes what is wrong with a command line, and answers the status.
+/// Writes the fault of a command line, and returns the status.
 fn complain<T: Display, E: Write>(text: &T, errors: &mut E) -> u8
     ensures { result ≡ 2 }
 {
-    // Nothing is left to tell where even this fails.
+    // Ignore errors: nowhere left to report.
     let _told = write!(errors, "{text}");
     2
 }
 
-/// Writes why a command failed, and answers its status.
+/// Writes the error of a command, and returns its status.
 fn fail<F: Display, E: Write>(fault: &F, errors: &mut E) -> u8
     ensures { result ≡ 1 }
 {
-    // Nothing is left to tell where even this fails.
+    // Ignore errors: nowhere left to report.
     let _told = writeln!(errors, "{fault}");
     1
 }

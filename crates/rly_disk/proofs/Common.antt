@@ -1,13 +1,13 @@
--- The names that several proofs of this crate cite, passed on from one place. Declares nothing.
+-- Re-exports the names that several proofs of this crate cite.
 pub use Rattle.rly_disk.proofs.Overwritten.{overwritten_in, overwritten_outside, overwritten_within, written_over}
 pub use Rattle.rly_disk.proofs.Ranges.{same_outside_again, turned, wider}
-pub use Rattle.rly_disk.specs.DiskModel.{Consistent, Counted, DiskState, HasFailed, IsSpent, IsTorn, IsWritten, Later, LeavesOnly, NothingNew, overwritten}
+pub use Rattle.rly_disk.specs.DiskModel.{Consistent, Counted, DiskState, HasFailed, IsSpent, IsTorn, IsWritten, Later, LeavesOnly, NothingNew, bytes_after_write}
 pub use Rattle.rly_disk.specs.DiskModel.{SameOutside, Settled, SettlesNothing}
 pub use Rattle.rly_disk.specs.FaultDisk.{fault_state}
 pub use Rattle.rly_disk.specs.HelpersMemDisk.{consistent_of, mem_consistent}
 pub use Rattle.rly_disk.specs.HelpersRecord.{counts_now, from_last, is_event_within, seen_is_image}
 pub use Rattle.rly_disk.specs.MemDisk.{IsLeft, mem_state, recorded_state}
-pub use Rattle.rly_disk.specs.Record.{before, before_but, is_covered, is_sync, IsFilled, IsImage, pending, synced_events, WasImage}
+pub use Rattle.rly_disk.specs.Record.{bytes_before, before_but, is_covered, is_sync, IsFilled, IsImage, events_since_sync, synced_events, WasImage}
 pub use Rattle.rly_disk.specs.Trace.{AllWrites, are_quiet, are_reads, count_of, DeviceEvent, each_below, FailedRead, FailedSync, FailedWrite, Follows}
 pub use Rattle.rly_disk.specs.Trace.{images_after, images_at_end, images_within, is_failed_call, is_failed_read, is_spent, is_still, is_sync_call, IsCut}
 pub use Rattle.rly_disk.specs.Trace.{IsFailed, IsMade, Leads, Makes, OnlyReads, Read, seen_after, seen_at_end, Sync, Write}

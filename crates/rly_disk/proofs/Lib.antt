@@ -6,4 +6,6 @@ pub mod Overwritten
 pub mod Ranges
 mod RecordLemmas
 pub mod Traces
-mod Watching
+mod TracedCalls
+pub mod TriedRows
+pub mod TriedReads

@@ -1,13 +1,13 @@
--- What follows where a row of calls was made.
+-- The consequences if a list of calls was made.
 use Rattle.rly_disk.proofs.Common.{[], add-one, AllWrites, append-nil, are_quiet, are_reads, arith, Bool, cases_eq, Consistent, count_of, DeviceEvent}
 use Rattle.rly_disk.proofs.Common.{DiskState, each_below, Err, FailedRead, FailedWrite, false, false≢true, HasFailed, images_after, images_at_end}
 use Rattle.rly_disk.proofs.Common.{images_within, inl, inr, is_failed_call, is_ok, is_spent, is_sync_call, IsErr, IsFailed, IsMade, IsTorn, IsWritten, Later}
-use Rattle.rly_disk.proofs.Common.{LeavesOnly, length, length-take, List, Makes, nat_tests, NothingNew, Ok, OnlyReads, overwritten, overwritten_within, Read}
+use Rattle.rly_disk.proofs.Common.{LeavesOnly, length, length-take, List, Makes, nat_tests, NothingNew, Ok, OnlyReads, bytes_after_write, overwritten_within, Read}
 use Rattle.rly_disk.proofs.Common.{refl, Result, SameOutside, seen_after, seen_at_end, Settled, suc, Sync, take, true, wider, Write, zero, ℕ, ⊎_elim, ◌++◌, ◌+◌}
 use Rattle.rly_disk.proofs.Common.{◌<◌, ◌∙◌, ◌∷◌, ◌≡◌, ◌≤◌, ◌⊎◌}
 use Rattle.rly_disk.proofs.Traces.{within_start, within_grows, within_joined, makes_front, makes_joined}
 
--- ---- the events of a row against its calls
+-- ---- the events of a list against its calls
 
 -- call by call: each was done, up to one that failed or wasn't counted
 pub data Row : (whole spent : Bool) → (calls events : List DeviceEvent) → Type 0 where
@@ -31,7 +31,7 @@ pub made_row : {D : Type 0} {state : D → DiskState} {a b : D} {calls : List De
     → Row whole (is_spent (state b)) calls made.events
 made_row {state = state} {b = b} {calls} {whole} made = row_of whole (is_spent (state b)) calls made.events made.made
 
--- the images of the moments of a row that was cut are among those of the whole row
+-- the images of a list that was cut are among those of the whole list
 within_row : {whole spent : Bool} {calls events : List DeviceEvent} → Row whole spent calls events → (seen : List ℕ) (I : List ℕ → Type 0) (c : List ℕ)
     → images_within events seen I c → images_within calls seen I c
 within_row (Done {call = call} row) seen I c image = let more = within_row row (seen_after call seen) (images_after call seen I) c in grind (arith, more)
@@ -39,7 +39,7 @@ within_row (Failed {call = call} {rest = rest} failed) seen I c image =
     let more = within_start rest (seen_after call seen) (images_after call seen I) c in grind (arith, more)
 within_row row seen I c image = grind arith
 
--- no more syncs than calls of that kind, at most one failure more, and one at least where not all were made
+-- at most the syncs of the list, at most one failure more, and at least one if not all calls were made
 pub row_counts : {whole spent : Bool} {calls events : List DeviceEvent} → Row whole spent calls events
     → (count_of is_sync_call events ≤ count_of is_sync_call calls) × (count_of is_failed_call events ≤ count_of is_failed_call calls + 1)
     × (whole ≡ false → (1 ≤ count_of is_failed_call events) ⊎ (spent ≡ true))
@@ -47,13 +47,13 @@ row_counts (Done row) = let more = row_counts row in (omega (arith, more.0), ome
 row_counts (Failed failed) = (grind arith, grind arith, λ cut. grind arith)
 row_counts row = (omega arith, omega arith, λ cut. grind arith)
 
--- no read failed where none was to be made
+-- no read failed if no call was a failed read
 abbrev pub is_read_call : DeviceEvent → Bool
 is_read_call (Read place count) = true
 is_read_call (FailedRead place count) = true
 is_read_call call = false
 
--- ---- what rows leave: one image after a sync, no new one where nothing is written
+-- ---- the effects of lists: one image after a sync, no new one without a write
 
 -- after these calls there is one image
 abbrev pub AreSynced : List DeviceEvent → Type 1
@@ -66,12 +66,12 @@ synced_behind (call ∷ calls) more synced = λ seen I. synced_behind calls more
 pub synced_sync : AreSynced (Sync ∷ [])
 synced_sync seen I c image = image
 
--- what the calls of a part are
+-- the calls of a part
 pub quiet_front : (done rest : List DeviceEvent) → are_quiet (done ++ rest) ≡ true → are_quiet done ≡ true
 quiet_front [] rest quiet = refl
 quiet_front (call ∷ done) rest quiet = let more = quiet_front done rest in grind (arith, more)
 
--- they leave what is read
+-- they leave the bytes that a read returns unchanged
 pub quiet_seen : {whole spent : Bool} {calls events : List DeviceEvent} → Row whole spent calls events → are_quiet calls ≡ true → (seen : List ℕ)
     → seen_at_end events seen ≡ seen
 quiet_seen (Done {call = call} row) quiet seen = let more = λ (still : _). quiet_seen row still seen in grind (arith, more)
@@ -97,7 +97,7 @@ pub reads_quiet : (calls : List DeviceEvent) → are_reads calls ≡ true → ar
 reads_quiet [] reads = refl
 reads_quiet (call ∷ calls) reads = let more = reads_quiet calls in grind (arith, more)
 
--- a write that may have failed lies in a range that has room for it
+-- a write that may have failed lies in a range that contains it
 write_outside : {whole spent : Bool} {place n : ℕ} {bytes seen : List ℕ} {events : List DeviceEvent} → Row whole spent (Write place bytes ∷ []) events
     → length bytes ≤ n → place + n ≤ length seen → SameOutside place n seen (seen_at_end events seen)
 write_outside {place = place} {n} {bytes} {seen} (Done Whole) short room = overwritten_within place n bytes seen short room
@@ -105,18 +105,18 @@ write_outside {place = place} {n} {bytes} {seen} (Failed failed) short room =
     rw failed.1 (overwritten_within place n _ seen (omega (arith, length-take (length bytes) failed.0)) room)
 write_outside Uncounted short room = assumption
 
--- ---- a row of calls that was made
+-- ---- a list of calls that was made
 
 module _ {D : Type 0} (state : D → DiskState) {a b : D} {calls : List DeviceEvent} where
   pub makes_failed : Makes state calls false a b → HasFailed (state a) (state b)
   makes_failed made = let failed = (row_counts (made_row made)).2 refl in grind (arith, nat_tests)
 
-  -- where an error is handed on
+  -- an error is returned
   pub cut_short : {A E : Type 0} (result : Result A E) → IsErr result → Makes state calls false a b → Makes state calls (is_ok result) a b
   cut_short (Ok done) failed made = absurd (false≢true failed)
   cut_short (Err fault) failed made = made
 
-  -- what a read gives at the end
+  -- the bytes that a read returns at the end
   pub makes_seen : Makes state calls true a b → (state a).honest → (state b).seen ≡ seen_at_end calls (state a).seen
   makes_seen made honest = rw (← made.made) (made.leads.follows honest).seen
 
@@ -132,7 +132,7 @@ module _ {D : Type 0} (state : D → DiskState) {a b : D} {calls : List DeviceEv
   pub makes_syncs : (state b).syncs ≤ (state a).syncs + count_of is_sync_call calls
   makes_syncs = omega (arith, made.leads.syncs, (row_counts (made_row made)).0)
 
-  -- an image of the end, or of a moment since one before the row, is one of the row's moments, or of before it
+  -- an image of the end, or of a moment since one before the list, is one of the list's moments, or of before it
   leaves : (P : List ℕ → Type 0) → (state a).honest → ((c : List ℕ) → images_within calls (state a).seen (state a).images c → P c)
       → ((c : List ℕ) → (state b).images c → P c) × ((t : ℕ) (c : List ℕ) → t ≤ (state a).moment → (state b).since t c → (state a).since t c ⊎ P c)
   leaves P honest here =
@@ -152,7 +152,7 @@ module _ {D : Type 0} (state : D → DiskState) {a b : D} {calls : List DeviceEv
   quiet_settled quiet settled facts = let new = quiet_new quiet settled.honest settled.consistent in search (arith, facts, settled.only, new.images)
 
 module _ {D : Type 0} (state : D → DiskState) {a b : D} {whole : Bool} where
-  -- what a crash at any moment leaves, whether all were made or not
+  -- the images of a crash at any moment, whether all calls were made or not
   pub makes_leaves : {calls : List DeviceEvent} (P : List ℕ → Type 0) → Makes state calls whole a b → Settled (state a)
       → ((c : List ℕ) → images_within calls (state a).seen (λ d. d ≡ (state a).seen) c → P c) → LeavesOnly (state a) (state b) P
   makes_leaves {calls} P made settled here =
@@ -160,7 +160,7 @@ module _ {D : Type 0} (state : D → DiskState) {a b : D} {whole : Bool} where
       let start = λ (c : List ℕ) (now : _). kept c (within_start calls (state a).seen (state a).images c now) in
       search (arith, (leaves state made P settled.honest kept).1, (made.leads.follows settled.honest).later, start, settled.consistent.only_now)
 
-  -- a write that may have failed, of which all bytes outside a range are as they were
+  -- a write that may have failed, with all bytes outside a range unchanged
   pub write_written : (place n : ℕ) (bytes : List ℕ) → length bytes ≤ n → Makes state (Write place bytes ∷ []) whole a b → (state a).honest
       → Consistent (state a) → place + n ≤ (state a).size → IsWritten place n (state a) (state b)
   write_written place n bytes short made honest facts fits =
@@ -193,7 +193,7 @@ module _ {D : Type 0} (state : D → DiskState) (calls : ℕ → List DeviceEven
     | inr more ↦ makes_front state (each_below calls n) (calls n) (each_failed k n (omega (arith, below, more)) first second)
   ]
 
--- ---- what a crash leaves of two rows, the first of which leaves nothing pending
+-- ---- the crash images of two lists, the first of which leaves no write pending
 
 pub synced_then : (first second : List DeviceEvent) → AreSynced first → (seen : List ℕ) (I : List ℕ → Type 0) (c : List ℕ)
     → images_within (first ++ second) seen I c
@@ -201,13 +201,13 @@ pub synced_then : (first second : List DeviceEvent) → AreSynced first → (see
 synced_then first second synced seen I c image =
     let past = within_grows second (seen_at_end first seen) _ _ (synced seen I) c in grind (arith, past, (within_joined first second seen I c).0 image)
 
--- ---- what a row leaves whose writes keep what is said of an image
+-- ---- a list whose writes keep a property of an image
 
 module _ (R : List ℕ → Type 0) (IsRange : ℕ → ℕ → Type 0) (fits : (place n : ℕ) (c : List ℕ) → IsRange place n → R c → place + n ≤ length c)
     (keeps : (place n : ℕ) (c d : List ℕ) → IsRange place n → R c → SameOutside place n c d → R d) where
-  -- n bytes at a place are overwritten by no more than n
+  -- n bytes at an offset are overwritten by at most n
   written_kept : (place n : ℕ) (bytes seen : List ℕ) (I : List ℕ → Type 0) → length bytes ≤ n → IsRange place n → R seen → ((c : List ℕ) → I c → R c)
-      → R (overwritten place bytes seen) × ((c : List ℕ) → IsTorn place n I c → R c)
+      → R (bytes_after_write place bytes seen) × ((c : List ℕ) → IsTorn place n I c → R c)
   written_kept place n bytes seen I short range here images =
       let over = overwritten_within place n bytes seen short (fits place n seen range here) in
       (keeps place n seen _ range here over, λ c torn. keeps place n torn.0 c range (images torn.0 torn.1) torn.2)
@@ -224,13 +224,13 @@ module _ (R : List ℕ → Type 0) (IsRange : ℕ → ℕ → Type 0) (fits : (p
   kept (Sync ∷ calls) seen I all here images c image = ⊎_elim (images c) (kept calls seen (λ d. d ≡ seen) all here (λ d is. rw is here) c) image
   kept (event ∷ calls) seen I all here images c image = ⊎_elim (images c) (kept calls seen I all here images c) image
 
-  -- a crash at any moment of the row
+  -- a crash at any moment of the list
   pub leaves_kept : {D : Type 0} (state : D → DiskState) {a b : D} {calls : List DeviceEvent} {whole : Bool} → Makes state calls whole a b → Settled (state a)
       → AllWrites IsRange calls → R (state a).seen → LeavesOnly (state a) (state b) R
   leaves_kept state {a} {b} {calls} made settled all here =
       makes_leaves state R made settled (kept calls (state a).seen (λ d. d ≡ (state a).seen) all here (λ d is. rw is here))
 
--- two rows
+-- two lists
 pub all_joined : (IsRange : ℕ → ℕ → Type 0) (first second : List DeviceEvent) → AllWrites IsRange first → AllWrites IsRange second
     → AllWrites IsRange (first ++ second)
 all_joined IsRange [] second one two = two

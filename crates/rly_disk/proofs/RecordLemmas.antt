@@ -1,9 +1,9 @@
--- How the images that a record tells of go on from event to event, and what a write, a sync and a crash make of them.
-use Rattle.rly_disk.proofs.Common.{[], and_from, and_parts, ap, arith, before, before_but, cases_lt, consistent_of, counts_now, drop, drop-append-le, drop_all}
+-- The images of a record from event to event, and the effect of a write, a sync and a crash on them.
+use Rattle.rly_disk.proofs.Common.{[], and_from, and_parts, ap, arith, bytes_before, before_but, cases_lt, consistent_of, counts_now, drop, drop-append-le, drop_all}
 use Rattle.rly_disk.proofs.Common.{Event, ext_get_or, false, from_last, get_or, Global, if◌then◌else◌, inl, inr, is_covered, is_event_within, is_sync, IsImage}
 use Rattle.rly_disk.proofs.Common.{IsLeft, IsTorn, IsWritten, le-leb, leb-true, length, length-append, length-drop, length-take, length_push, List, list_all}
-use Rattle.rly_disk.proofs.Common.{list_all-append, list_any-append, nat_tests, NothingNew, overwritten, overwritten_in, overwritten_outside}
-use Rattle.rly_disk.proofs.Common.{overwritten_within, pending, places, recorded_state, refl, SameOutside, seen_is_image, Settled, slice_range, suc, Synced}
+use Rattle.rly_disk.proofs.Common.{list_all-append, list_any-append, nat_tests, NothingNew, bytes_after_write, overwritten_in, overwritten_outside}
+use Rattle.rly_disk.proofs.Common.{overwritten_within, events_since_sync, places, recorded_state, refl, SameOutside, seen_is_image, Settled, slice_range, suc, Synced}
 use Rattle.rly_disk.proofs.Common.{synced_events, take, take-append-drop, take-append-le, take_rest, true, turned, Vec, WasImage, with_items_is, Written}
 use Rattle.rly_disk.proofs.Common.{written_over, ℕ, ⊎_elim, ◌++◌, ◌+◌, ◌-◌, ◌<◌, ◌↔◌, ◌∷◌, ◌≡◌, ◌≤◌, ◌⊎◌}
 
@@ -11,24 +11,24 @@ pub synced_events_le : (events : List Event) → synced_events events ≤ length
 synced_events_le [] = omega arith
 synced_events_le (event ∷ events) = let below = synced_events_le events in grind (arith, nat_tests)
 
--- a sync settles all, and a write nothing
+-- a sync makes all durable, and a write nothing
 pub synced_events-push : (events : List Event) (event : Event)
     → synced_events (events ++ event ∷ []) ≡ (if is_sync event then suc (length events) else synced_events events)
 synced_events-push [] event = grind (arith, nat_tests)
 synced_events-push (first ∷ events) event = let more = synced_events-push events event in grind (arith, nat_tests)
 
-pub before-append : (xs ys : List Event) (bytes : List ℕ) → before (xs ++ ys) bytes ≡ before xs (before ys bytes)
+pub before-append : (xs ys : List Event) (bytes : List ℕ) → bytes_before (xs ++ ys) bytes ≡ bytes_before xs (bytes_before ys bytes)
 before-append [] ys bytes = refl
 before-append (event ∷ xs) ys bytes = let more = before-append xs ys bytes in grind arith
 
-pub pending-write : (events : List Event) (event : Event) → is_sync event ≡ false → pending (events ++ event ∷ []) ≡ pending events ++ event ∷ []
+pub pending-write : (events : List Event) (event : Event) → is_sync event ≡ false → events_since_sync (events ++ event ∷ []) ≡ events_since_sync events ++ event ∷ []
 pending-write events event is = rw (synced_events-push, is) (drop-append-le (synced_events events) events (event ∷ []) (synced_events_le events))
 
-pub pending-sync : (events : List Event) → pending (events ++ Synced ∷ []) ≡ []
+pub pending-sync : (events : List Event) → events_since_sync (events ++ Synced ∷ []) ≡ []
 pending-sync events = drop_all _ (events ++ Synced ∷ []) (omega (arith, synced_events-push events Synced, length_push events Synced))
 
--- the pending events lie within what all lie within
-pub pending-within : (size : ℕ) (events : List Event) → list_all (is_event_within size) events ≡ true → list_all (is_event_within size) (pending events) ≡ true
+-- the pending events lie within the bounds of all
+pub pending-within : (size : ℕ) (events : List Event) → list_all (is_event_within size) events ≡ true → list_all (is_event_within size) (events_since_sync events) ≡ true
 pending-within size events all = (and_parts _ _ (rw (← take-append-drop (synced_events events) events, list_all-append) at all)).1
 
 -- so does the part of the record from the synced events on
@@ -36,14 +36,14 @@ pub part-within : (size : ℕ) (part : List Event) (synced : ℕ) → list_all (
     → list_all (is_event_within size) (take (length part - synced) (drop synced part)) ≡ true
 part-within size part synced all is = rw (is, take_rest part (synced_events part)) (pending-within size part all)
 
--- where no byte is kept, all is undone
-pub before_but_none : (events : List Event) (bytes : List ℕ) → before_but 0 events bytes ≡ before events bytes
+-- if no byte is kept, all writes are undone
+pub before_but_none : (events : List Event) (bytes : List ℕ) → before_but 0 events bytes ≡ bytes_before events bytes
 before_but_none [] bytes = refl
 before_but_none (event ∷ events) bytes = let more = before_but_none events bytes in grind arith
 
 pub ruleset of_record = (synced_events_le, before_but_none, take_rest, with_items_is)
 
--- undoing writes changes no byte but those that they wrote
+-- undoing writes changes only the bytes that they wrote
 pub before_but-outside : (kept : ℕ) (events : List Event) (bytes : List ℕ) → list_all (is_event_within (length bytes)) events ≡ true
     → (length (before_but kept events bytes) ≡ length bytes)
     × ((i : ℕ) → is_covered events i ≡ false → get_or (before_but kept events bytes) i 0 ≡ get_or bytes i 0)
@@ -57,10 +57,10 @@ before_but-outside kept (Written place replaced ∷ events) bytes within =
 
 -- ---- a write and a sync
 
--- the moments before the last event are as they were
+-- the moments before the last event are unchanged
 module _ (events then_events : List Event) (event : Event) (old new : List ℕ) (recorded : then_events ≡ events ++ event ∷ [])
-    (undone : before (event ∷ []) new ≡ old) where
-  same : (k : ℕ) → k ≤ length events → (take k then_events ≡ take k events) × (before (drop k then_events) new ≡ before (drop k events) old)
+    (undone : bytes_before (event ∷ []) new ≡ old) where
+  same : (k : ℕ) → k ≤ length events → (take k then_events ≡ take k events) × (bytes_before (drop k then_events) new ≡ bytes_before (drop k events) old)
   same k le = rw (recorded, take-append-le k events (event ∷ []) le, drop-append-le k events (event ∷ []) le, before-append, undone) (refl, refl)
 
   -- an image of a moment since t is one of before the event, or of this moment
@@ -77,7 +77,7 @@ module _ (events then_events : List Event) (event : Event) (old new : List ℕ) 
 -- a write that was recorded and made
 module _ (events then_events : List Event) (place : ℕ) (new old then_bytes : List ℕ) (fits : place + length new ≤ length old)
     (recorded : (v : Vec ℕ Global) × (v.items ≡ slice_range old place (place + length new)) × (then_events ≡ events ++ Written place v ∷ []))
-    (made : then_bytes ≡ overwritten place new old) where
+    (made : then_bytes ≡ bytes_after_write place new old) where
   abbrev write : Event
   write = Written place recorded.0
 
@@ -90,11 +90,11 @@ module _ (events then_events : List Event) (place : ℕ) (new old then_bytes : L
   over : SameOutside place (length new) old then_bytes
   over = rw made (overwritten_outside place new old fits)
 
-  undone : before (write ∷ []) then_bytes ≡ old
+  undone : bytes_before (write ∷ []) then_bytes ≡ old
   undone = rw recorded.1 (written_over place (length new) (omega (arith, fits, over.same_length)) (turned place (length new) over))
 
-  -- no write that is pending now wrote a byte that none wrote before, and that lies outside the range
-  free_now : (i : ℕ) → (is_covered (pending then_events) i ≡ false) ↔ ((is_covered (pending events) i ≡ false) × ((i < place) ⊎ (place + length new ≤ i)))
+  -- no pending write wrote a byte that none wrote before, and that lies outside the range
+  free_now : (i : ℕ) → (is_covered (events_since_sync then_events) i ≡ false) ↔ ((is_covered (events_since_sync events) i ≡ false) × ((i < place) ⊎ (place + length new ≤ i)))
   free_now i = rw (recorded.2, pending-write events write refl, list_any-append, ← long) (grind (arith, nat_tests))
 
   -- each image after the write is one from before it, torn in the range
@@ -120,7 +120,7 @@ module _ (events then_events : List Event) (place : ℕ) (new old then_bytes : L
   pub write_synced : synced_events then_events ≡ synced_events events
   write_synced = rw recorded.2 (synced_events-push events write)
 
-  pub write_as_synced : before (pending then_events) then_bytes ≡ before (pending events) old
+  pub write_as_synced : bytes_before (events_since_sync then_events) then_bytes ≡ bytes_before (events_since_sync events) old
   write_as_synced = rw (recorded.2, pending-write events write refl, before-append, undone)
 
 -- a sync that was recorded
@@ -149,8 +149,8 @@ sync_synced events then_events recorded = rw (recorded, synced_events-push event
 
 -- ---- a crash
 
--- what it leaves is an image
+-- it leaves an image
 pub left_image : (torn : _) (disk : _) (c : List ℕ) → IsLeft torn disk c → IsImage disk.events.items disk.bytes.items c
 left_image torn disk c left =
     let all = pending-within (length disk.bytes.items) disk.events.items disk.within in
-    let same = λ (kept : ℕ). before_but-outside kept (pending disk.events.items) disk.bytes.items all in grind (arith, same 0, same, before_but_none)
+    let same = λ (kept : ℕ). before_but-outside kept (events_since_sync disk.events.items) disk.bytes.items all in grind (arith, same 0, same, before_but_none)

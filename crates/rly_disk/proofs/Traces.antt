@@ -1,15 +1,15 @@
--- Lists of events: one call, and one list after the other.
+-- Lists of events: one call, and one list after another.
 use Rattle.rly_disk.proofs.Common.{[], ap, append_assoc, arith, Bool, cases_lt, Consistent, count_of, Counted, DeviceEvent, DiskState, Err, FailedRead}
 use Rattle.rly_disk.proofs.Common.{FailedSync, FailedWrite, false, false≢true, Follows, if◌then◌else◌, images_after, images_at_end, images_within, inl, inr}
 use Rattle.rly_disk.proofs.Common.{is_failed_call, is_failed_read, is_ok, is_spent, is_still, is_sync_call, IsCut, IsErr, IsFailed, IsMade, IsSpent, IsWritten}
 use Rattle.rly_disk.proofs.Common.{Later, Leads, length, length-append, length-drop, length-take, List, Makes, nat_tests, nil_from_length, NothingNew, Ok}
-use Rattle.rly_disk.proofs.Common.{OnErr, OnOk, overwritten, Read, refl, Result, seen_after, seen_at_end, Settled, SettlesNothing, slice_range, Sync, take_all}
+use Rattle.rly_disk.proofs.Common.{OnErr, OnOk, bytes_after_write, Read, refl, Result, seen_after, seen_at_end, Settled, SettlesNothing, slice_range, Sync, take_all}
 use Rattle.rly_disk.proofs.Common.{true, Write, written_over, ℕ, ⊎_elim, ◌++◌, ◌+◌, ◌-◌, ◌^◌, ◌↔◌, ◌∙◌, ◌∷◌, ◌≡◌, ◌≤◌, ◌⊎◌}
 
 abbrev pub one_if : Bool → ℕ
 one_if b = if b then 1 else 0
 
--- more images before an event leave more after it
+-- more images before an event give more after it
 images_grow : (event : DeviceEvent) (seen : List ℕ) (I K : List ℕ → Type 0) → ((c : List ℕ) → I c → K c) → (c : List ℕ) → images_after event seen I c
     → images_after event seen K c
 images_grow Sync seen I K more c image = image
@@ -74,14 +74,14 @@ leads_joined {a} {b} {e} first second one two =
 pub leads_nothing : (a : DiskState) → Leads [] a a
 leads_nothing a = search (arith, inl)
 
--- the calls up to one that failed, and those before one that wasn't counted
+-- the calls up to a failed one, and those before one that wasn't counted
 cut_at : (spent : Bool) (done rest : List DeviceEvent) (call last : DeviceEvent) → IsFailed call last → IsCut spent (done ++ call ∷ rest) (done ++ last ∷ [])
 cut_at _ done rest call last failed = inl (record { done = done; call = call; rest = rest; last = last; calls_are = refl; failed = failed; events_are = refl })
 
 cut_before : (spent : Bool) (done rest : List DeviceEvent) (call : DeviceEvent) → spent ≡ true → IsCut spent (done ++ call ∷ rest) done
 cut_before spent done rest call full = inr (full, record { call = call; rest = rest; calls_are = refl })
 
--- a row of calls that was cut, and one after a row that was made whole
+-- a list of calls that was cut, and one after a list that was made completely
 pub cut_front : (spent : Bool) (calls more events : List DeviceEvent) → IsCut spent calls events → IsCut spent (calls ++ more) events
 cut_front spent calls more events (inl f) = rw (f.calls_are, f.events_are, append_assoc) (cut_at spent f.done (f.rest ++ more) f.call f.last f.failed)
 cut_front spent calls more events (inr s) = rw (s.1.calls_are, append_assoc) (cut_before spent events (s.1.rest ++ more) s.1.call s.0)
@@ -110,11 +110,11 @@ module _ {D : Type 0} (state : D → DiskState) where
       let made : IsMade whole (is_spent (state e)) (calls ++ more) (one.events ++ two.events) =
       rw one.made (grind (arith, cut_behind (is_spent (state e)) calls more two.events)) in search (leads_joined one.events two.events one.leads two.leads)
 
-  -- one call, where the counts stand at their last value
+  -- one call, if the counters have their maximum value
   pub not_counted : {a : D} (call : DeviceEvent) (calls : List DeviceEvent) → IsSpent (state a) → Makes state (call ∷ calls) false a a
   not_counted {a} call calls spent = search (leads_nothing (state a), cut_before (is_spent (state a)) [] calls call (grind (arith, nat_tests)))
 
-  -- and where they don't, whatever came of it
+  -- and if they don't, done or failed
   call_done : {a b : D} (call : DeviceEvent) → (IsSpent (state a) → (false ≡ true) × (b ≡ a))
       → (¬ IsSpent (state a) → Leads (call ∷ []) (state a) (state b)) → Makes state (call ∷ []) true a b
   call_done call spent leads = record { events = call ∷ []; leads = leads (λ full. false≢true (spent full).0); made = refl; untouched = λ none. cc }
@@ -138,7 +138,7 @@ module _ {D : Type 0} (state : D → DiskState) where
   pub write_makes : {E : Type 0} {a b : D} (place : ℕ) (bytes : List ℕ) (result : Result (Unit {0}) E) → place + length bytes ≤ (state a).size
       → (¬ IsSpent (state a) → Counted (if is_ok result then 0 else 1) 0 0 (state a) (state b)) → (IsSpent (state a) → IsErr result × (b ≡ a))
       → Later (state a) (state b) → ((state a).honest → Consistent (state a)) → ((state a).honest → IsWritten place (length bytes) (state a) (state b))
-      → ((state a).honest → OnOk result ((state b).seen ≡ overwritten place bytes (state a).seen)) → Makes state (Write place bytes ∷ []) (is_ok result) a b
+      → ((state a).honest → OnOk result ((state b).seen ≡ bytes_after_write place bytes (state a).seen)) → Makes state (Write place bytes ∷ []) (is_ok result) a b
   write_makes place bytes (Ok done) fits counted spent later facts written seen = call_done (Write place bytes) spent
       (λ no. leads_once (Write place bytes) (counted no) later (λ h. search (arith, seen h, written h, (written h).since, false≢true)))
   write_makes {a = a} {b} place bytes (Err fault) fits counted spent later facts written seen =

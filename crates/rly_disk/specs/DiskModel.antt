@@ -1,13 +1,13 @@
--- What contracts see of a disk, and what its calls do to it (docs/DEFINITIONS.md, "The disk model").
+-- The state of a disk in contracts, and the effect of its calls (docs/DEFINITIONS.md, "The disk model").
 use Rattle.std.specs.Prelude.{◌≡◌, ◌⊎◌, ◌↔◌, ◌<◌, ◌≤◌, ◌+◌, ◌-◌, ◌^◌, ℕ, List, ◌++◌, length, take, drop, slice_index}
 
--- all that a contract may say of a disk
+-- the state of a disk in contracts
 pub record DiskState : Type 1 where
-  -- how many bytes it has, which never changes
+  -- its number of bytes, which never changes
   pub size : ℕ
-  -- what a read gives
+  -- the bytes that a read returns
   pub seen : List ℕ
-  -- the crash images of this moment: what a crash now may leave
+  -- the crash images of this moment: the bytes that a crash now may leave
   pub images : List ℕ → Type 0
   -- the number of this moment, which doesn't fall
   pub moment : ℕ
@@ -15,27 +15,27 @@ pub record DiskState : Type 1 where
   pub since : ℕ → List ℕ → Type 0
   -- it keeps to the disk model
   pub honest : Type 0
-  -- how many calls of `read_at`, `write_at` and `sync` were made, and of these how many failed, were syncs, and were
-  -- reads that failed
+  -- the number of calls of `read_at`, `write_at` and `sync`, and of these the failed ones, the syncs, and the failed
+  -- reads
   pub calls : ℕ
   pub failures : ℕ
   pub syncs : ℕ
   pub failed_reads : ℕ
 
--- the same bytes, but for n of them from a place on
+-- the same bytes, except n of them from an offset on
 pub record SameOutside (place n : ℕ) (old new : List ℕ) : Type 0 where
   pub same_length : length new ≡ length old
   pub each : (i : ℕ) → (i < place) ⊎ (place + n ≤ i) → slice_index new i ≡ slice_index old i
 
--- the list with these bytes from a place on
-abbrev pub overwritten : ℕ → List ℕ → List ℕ → List ℕ
-overwritten place bytes old = take place old ++ bytes ++ drop (place + length bytes) old
+-- the list with these bytes from an offset on
+abbrev pub bytes_after_write : ℕ → List ℕ → List ℕ → List ℕ
+bytes_after_write place bytes old = take place old ++ bytes ++ drop (place + length bytes) old
 
--- an image from before a write of n bytes at a place, with any bytes in that range
+-- an image from before a write of n bytes at an offset, with any bytes in that range
 abbrev pub IsTorn : ℕ → ℕ → (List ℕ → Type 0) → List ℕ → Type 0
 IsTorn place n before image = (d : List ℕ) × before d × SameOutside place n d image
 
--- what a write leaves, done or failed: a crash during it or after it may leave any bytes in its range, and the rest as
+-- the effect of a write, done or failed: a crash during or after it may leave any bytes in its range, and the rest as
 -- before
 pub record IsWritten (place n : ℕ) (old new : DiskState) : Type 0 where
   pub honest : new.honest
@@ -45,7 +45,7 @@ pub record IsWritten (place n : ℕ) (old new : DiskState) : Type 0 where
   pub since : (t : ℕ) (c : List ℕ) → t ≤ old.moment → new.since t c → old.since t c ⊎ IsTorn place n old.images c
   pub keeps : (t : ℕ) (c : List ℕ) → t ≤ old.moment → old.since t c → new.since t c
 
--- what a read or a sync leaves, done or failed: nothing that a crash might not have left before it
+-- the effect of a read or a sync, done or failed: no crash image that wasn't possible before it
 pub record NothingNew (old new : DiskState) : Type 0 where
   pub honest : new.honest
   pub seen : new.seen ≡ old.seen
@@ -54,43 +54,44 @@ pub record NothingNew (old new : DiskState) : Type 0 where
   pub since : (t : ℕ) (c : List ℕ) → t ≤ old.moment → new.since t c → old.since t c
   pub keeps : (t : ℕ) (c : List ℕ) → t ≤ old.moment → old.since t c → new.since t c
 
--- a crash may leave all that it might have left before: a read and a failed sync settle nothing
+-- every crash image from before is still possible: a read and a failed sync make nothing durable
 abbrev pub SettlesNothing : DiskState → DiskState → Type 0
 SettlesNothing old new = (c : List ℕ) → old.images c → new.images c
 
--- what holds of an honest disk at each moment
+-- the invariant of an honest disk
 pub record Consistent (disk : DiskState) : Type 0 where
   pub seen_size : length disk.seen ≡ disk.size
   pub image_size : (c : List ℕ) → disk.images c → length c ≡ disk.size
-  -- a crash may leave what a read gives
+  -- a crash may leave the bytes that a read returns
   pub seen_is_image : disk.images disk.seen
-  -- this moment is one of those since an earlier one
+  -- the images of this moment are among those since an earlier one
   pub counts_now : (t : ℕ) (c : List ℕ) → t ≤ disk.moment → disk.images c → disk.since t c
-  -- since this moment there is no other
+  -- since this moment there are no other images
   pub only_now : (c : List ℕ) → disk.since disk.moment c → disk.images c
 
--- nothing is pending: the disk is honest, and its only image is what a read gives
+-- no write is pending: the disk is honest, and its only image is the bytes that a read returns
 pub record Settled (disk : DiskState) : Type 0 where
   pub honest : disk.honest
   pub consistent : Consistent disk
   pub only : (c : List ℕ) → disk.images c → c ≡ disk.seen
 
--- the calls stand at the last value of 64 bits, which no other count is above: each call fails and changes nothing
+-- the number of calls has the maximum value of 64 bits, which no other counter exceeds: each call fails and changes
+-- nothing
 abbrev pub IsSpent : DiskState → Type 0
 IsSpent disk = 2 ^ 64 - 1 ≤ disk.calls
 
--- a call failed: `failures` rose. Where the counts stand at their last value, that is read as a rise
+-- a call failed: `failures` rose. Counters at their maximum value also count as a rise
 abbrev pub HasFailed : DiskState → DiskState → Type 0
 HasFailed old new = (old.failures < new.failures) ⊎ IsSpent new
 
--- one call more, with so many failures, syncs and failed reads in it
+-- one more call, with this many failures, syncs and failed reads in it
 pub record Counted (failures syncs failed_reads : ℕ) (old new : DiskState) : Type 0 where
   pub calls : new.calls ≡ old.calls + 1
   pub failures_more : new.failures ≡ old.failures + failures
   pub syncs_more : new.syncs ≡ old.syncs + syncs
   pub failed_reads_more : new.failed_reads ≡ old.failed_reads + failed_reads
 
--- what any row of calls keeps, on any disk: its size, that it is honest or not, and that no count falls
+-- the invariants of any list of calls, on any disk: its size, whether it is honest, and counters that don't fall
 pub record Later (old new : DiskState) : Type 0 where
   pub size : new.size ≡ old.size
   pub honest : new.honest ↔ old.honest
@@ -99,9 +100,9 @@ pub record Later (old new : DiskState) : Type 0 where
   pub syncs : old.syncs ≤ new.syncs
   pub failed_reads : old.failed_reads ≤ new.failed_reads
 
--- a crash at any moment of a call that led from old to new leaves an image that has P
+-- a crash at any moment of a call that led from old to new leaves an image with P
 pub record LeavesOnly (old new : DiskState) (P : List ℕ → Type 0) : Type 0 where
   pub later : old.moment ≤ new.moment
   pub each : (c : List ℕ) → new.since old.moment c → P c
-  -- for a row of calls that began earlier
+  -- for a list of calls that began earlier
   pub before : (t : ℕ) (c : List ℕ) → t ≤ old.moment → new.since t c → old.since t c ⊎ P c

@@ -1,4 +1,4 @@
--- What contracts see of a disk that fails at a chosen call.
+-- The state in contracts of a disk that fails at a chosen call.
 use Rattle.std.specs.Prelude.{◌==◌, ◌&&◌, ◌+◌, ℕ, Bool, not, nat_le}
 use Rattle.rly_disk.specs.DiskModel.{DiskState}
 use Rattle.rly_disk.specs.declared.fault_disk.After.{After}
@@ -8,7 +8,7 @@ use Rattle.rly_disk.specs.declared.fault_disk.FaultDisk.{FaultDisk}
 abbrev pub inner_of : {D : Type 0} → FaultDisk D → D
 inner_of disk = disk.inner
 
--- the number of the call that fails, how many bytes a failing write puts, and what comes after
+-- the number of the call that fails, the number of bytes that a failing write writes, and the behaviour after it
 abbrev pub fault_plan : {D : Type 0} → FaultDisk D → ℕ × ℕ × After
 fault_plan disk = (disk.at, disk.torn, disk.after)
 
@@ -16,15 +16,15 @@ abbrev pub torn_of : {D : Type 0} → FaultDisk D → ℕ
 torn_of disk = disk.torn
 
 -- the call of this number was chosen to fail
-abbrev pub fails : ℕ → After → ℕ → Bool
-fails at GoesOn number = number == at
-fails at Stops number = not (at == 0) && nat_le at number
+abbrev pub is_failing_call : ℕ → After → ℕ → Bool
+is_failing_call at GoesOn number = number == at
+is_failing_call at Stops number = not (at == 0) && nat_le at number
 
--- the next call was
+-- the next call was chosen to fail
 abbrev pub fails_next : {D : Type 0} → FaultDisk D → Bool
-fails_next disk = fails disk.at disk.after (disk.counts.calls + 1)
+fails_next disk = is_failing_call disk.at disk.after (disk.counts.calls + 1)
 
--- it reads and may crash as the disk in it, and has counts of its own
+-- its bytes and crash images are those of the disk inside, and its counters its own
 abbrev pub fault_state : {D : Type 0} → (D → DiskState) → FaultDisk D → DiskState
 fault_state state disk = record (state disk.inner) {
   calls = disk.counts.calls;

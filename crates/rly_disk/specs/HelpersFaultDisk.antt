@@ -1,4 +1,4 @@
--- Helpers: what `FaultDisk` shows of itself to be a `Disk`. Nothing here is claimed beyond what `Disk` says.
+-- Helpers: the proof that `FaultDisk` is a `Disk`. They claim nothing beyond the contract of `Disk`.
 use Rattle.std.specs.Prelude.{◌≤◌}
 use Rattle.rly_disk.specs.DiskModel.{DiskState, Consistent}
 use Rattle.rly_disk.specs.FaultDisk.{fault_state}

@@ -1,4 +1,4 @@
--- Helpers: what `MemDisk` shows of itself to be a `Disk`. Nothing here is claimed beyond what `Disk` says.
+-- Helpers: the proof that `MemDisk` is a `Disk`. They claim nothing beyond the contract of `Disk`.
 use Rattle.std.specs.Prelude.{◌≤◌, ℕ, List, refl}
 use Rattle.rly_disk.specs.DiskModel.{Consistent}
 use Rattle.rly_disk.specs.HelpersRecord.{seen_is_image, counts_now, only_now}

@@ -6,4 +6,5 @@ pub mod HelpersRecord
 pub mod MemDisk
 pub mod Record
 pub mod Trace
-pub mod Watched
+pub mod TracedDisk
+pub mod Trials

@@ -1,16 +1,16 @@
--- What a row of calls did to a disk, as one list of events, and what follows from such a list.
+-- The effect of a list of calls on a disk, as one list of events, and the laws of such lists.
 use Rattle.std.specs.Prelude.{◌≡◌, ◌⊎◌, ◌↔◌, ◌≤◌, ◌+◌, ◌-◌, ◌^◌, ℕ, zero, suc, Bool, true, false, nat_le, if◌then◌else◌}
 use Rattle.std.specs.Prelude.{List, [], ◌∷◌, ◌++◌, length, take}
-use Rattle.rly_disk.specs.DiskModel.{DiskState, IsTorn, overwritten}
+use Rattle.rly_disk.specs.DiskModel.{DiskState, IsTorn, bytes_after_write}
 
 -- a call of a disk, done or failed
 pub data DeviceEvent : Type 0 where
-  -- so many bytes were read from a place on
+  -- this many bytes were read at an offset
   Read : (place count : ℕ) → DeviceEvent
   FailedRead : (place count : ℕ) → DeviceEvent
-  -- these bytes were written from a place on
+  -- these bytes were written at an offset
   Write : (place : ℕ) (bytes : List ℕ) → DeviceEvent
-  -- the write of these bytes failed; in their range a read now gives the others, of which none lies after it
+  -- the write of these bytes failed; in their range a read now returns the bytes `left`, which end within that range
   FailedWrite : (place : ℕ) (bytes left : List ℕ) → DeviceEvent
   Sync : DeviceEvent
   FailedSync : DeviceEvent
@@ -39,22 +39,23 @@ is_failed_read (FailedWrite place bytes left) = false
 is_failed_read Sync = false
 is_failed_read FailedSync = false
 
--- how many of the events are of this kind
+-- the number of events of this kind
 abbrev pub count_of : (DeviceEvent → Bool) → List DeviceEvent → ℕ
 count_of kind [] = 0
 count_of kind (event ∷ events) = (if kind event then 1 else 0) + count_of kind events
 
--- what a read gives after an event, from what it gave before it
+-- the bytes that a read returns after an event, from those before it
 abbrev pub seen_after : DeviceEvent → List ℕ → List ℕ
 seen_after (Read place count) seen = seen
 seen_after (FailedRead place count) seen = seen
-seen_after (Write place bytes) seen = overwritten place bytes seen
-seen_after (FailedWrite place bytes left) seen = overwritten place (take (length bytes) left) seen
+seen_after (Write place bytes) seen = bytes_after_write place bytes seen
+seen_after (FailedWrite place bytes left) seen = bytes_after_write place (take (length bytes) left) seen
 seen_after Sync seen = seen
 seen_after FailedSync seen = seen
 
--- the crash images after an event, from what a read gave and the images before it. A write leaves any bytes in its
--- range, from its first moment on; a sync leaves what a read gives; a read and a failed sync change nothing
+-- the crash images after an event, from the bytes that a read returned and the images before it. A write allows any
+-- bytes in its range, from its first moment on; a sync leaves the bytes that a read returns; a read and a failed sync
+-- change nothing
 abbrev pub images_after : DeviceEvent → List ℕ → (List ℕ → Type 0) → List ℕ → Type 0
 images_after (Read place count) seen images = images
 images_after (FailedRead place count) seen images = images
@@ -79,7 +80,7 @@ images_within [] seen images image = images image
 images_within (event ∷ events) seen images image =
     images image ⊎ images_within events (seen_after event seen) (images_after event seen images) image
 
--- the events are reads and syncs that failed: they settle nothing
+-- the events are reads and failed syncs: they make nothing durable
 abbrev pub is_still : List DeviceEvent → Bool
 is_still [] = true
 is_still (Read place count ∷ events) = is_still events
@@ -89,7 +90,7 @@ is_still (FailedWrite place bytes left ∷ events) = false
 is_still (Sync ∷ events) = false
 is_still (FailedSync ∷ events) = is_still events
 
--- what the events make of an honest disk
+-- the effect of the events on an honest disk
 pub record Follows (events : List DeviceEvent) (old new : DiskState) : Type 0 where
   pub seen : new.seen ≡ seen_at_end events old.seen
   pub images : (c : List ℕ) → new.images c → images_at_end events old.seen old.images c
@@ -99,8 +100,8 @@ pub record Follows (events : List DeviceEvent) (old new : DiskState) : Type 0 wh
       → new.since t c → old.since t c ⊎ images_within events old.seen old.images c
   pub keeps : (t : ℕ) (c : List ℕ) → t ≤ old.moment → old.since t c → new.since t c
 
--- these events and no others lead from one state of a disk to another: on any disk they account for its counts, on an
--- honest one also for its bytes and for what a crash leaves
+-- exactly these events lead from one state of a disk to another: on any disk they account for its counters, on an
+-- honest one also for its bytes and its crash images
 pub record Leads (events : List DeviceEvent) (old new : DiskState) : Type 0 where
   pub calls : new.calls ≡ old.calls + length events
   pub failures : new.failures ≡ old.failures + count_of is_failed_call events
@@ -119,12 +120,11 @@ IsFailed (FailedRead place count) event = ⊥
 IsFailed (FailedWrite place bytes left) event = ⊥
 IsFailed FailedSync event = ⊥
 
--- the counts stand at their last value
+-- the number of calls has its maximum value
 abbrev pub is_spent : DiskState → Bool
 is_spent disk = nat_le (2 ^ 64 - 1) disk.calls
 
--- of a row of calls those before one were made, and it failed: it is the last event, it isn't tried again, and
--- nothing goes on after it
+-- the calls of a list up to one were made, and that one failed: it is the last event, and isn't retried
 pub record EndsAtFailure (calls events : List DeviceEvent) : Type 0 where
   pub done : List DeviceEvent
   pub call : DeviceEvent
@@ -134,7 +134,7 @@ pub record EndsAtFailure (calls events : List DeviceEvent) : Type 0 where
   pub failed : IsFailed call last
   pub events_are : events ≡ done ++ last ∷ []
 
--- of a row of calls those before one were made, which wasn't counted, since the counts stand at their last value
+-- the calls of a list before one were made; that one wasn't counted, because the number of calls has its maximum value
 pub record EndsUncounted (calls events : List DeviceEvent) : Type 0 where
   pub call : DeviceEvent
   pub rest : List DeviceEvent
@@ -143,7 +143,7 @@ pub record EndsUncounted (calls events : List DeviceEvent) : Type 0 where
 abbrev pub IsCut : Bool → List DeviceEvent → List DeviceEvent → Type 0
 IsCut spent calls events = EndsAtFailure calls events ⊎ ((spent ≡ true) × EndsUncounted calls events)
 
--- the calls of a row were made: all of them, done, or those up to the first that failed
+-- the calls of a list were made: all of them without failure, or those up to the first failure
 abbrev pub IsMade : Bool → Bool → List DeviceEvent → List DeviceEvent → Type 0
 IsMade true spent calls events = events ≡ calls
 IsMade false spent calls events = IsCut spent calls events
@@ -173,7 +173,7 @@ are_reads (FailedWrite place bytes left ∷ calls) = false
 are_reads (Sync ∷ calls) = false
 are_reads (FailedSync ∷ calls) = false
 
--- the range of each write is one of these, each a place and a length
+-- the range of each write, an offset and a length, has a property
 abbrev pub AllWrites : (ℕ → ℕ → Type 0) → List DeviceEvent → Type 0
 AllWrites IsRange [] = Unit {0}
 AllWrites IsRange (Read place count ∷ calls) = AllWrites IsRange calls
@@ -187,8 +187,8 @@ AllWrites IsRange (FailedSync ∷ calls) = AllWrites IsRange calls
 abbrev pub WritesWithin : ℕ → ℕ → List DeviceEvent → Type 0
 WritesWithin place n calls = AllWrites (λ at count. (place ≤ at) × (at + count ≤ place + n)) calls
 
--- a row of calls of a disk was made, whole or up to the first that failed, and nothing else; where
--- none was made the disk is the same
+-- exactly the calls of a list were made on a disk, all or up to the first failure; if none was made the disk is
+-- unchanged
 pub record Makes {D : Type 0} (state : D → DiskState) (calls : List DeviceEvent) (whole : Bool) (old new : D)
     : Type 0 where
   pub events : List DeviceEvent
@@ -196,7 +196,7 @@ pub record Makes {D : Type 0} (state : D → DiskState) (calls : List DeviceEven
   pub made : IsMade whole (is_spent (state new)) calls events
   pub untouched : events ≡ [] → new ≡ old
 
--- a prefix of a row of calls was made, whole or up to the first that failed, and nothing else
+-- exactly a prefix of a list of calls was made, all of it or up to the first failure
 pub record MakesFront {D : Type 0} (state : D → DiskState) (calls : List DeviceEvent) (whole : Bool) (old new : D)
     : Type 0 where
   pub front : List DeviceEvent
@@ -204,7 +204,7 @@ pub record MakesFront {D : Type 0} (state : D → DiskState) (calls : List Devic
   pub calls_are : calls ≡ front ++ rest
   pub makes : Makes state front whole old new
 
--- reads were made, all of them or those up to the first that failed, and no other call
+-- only reads were made, all of them or up to the first failure
 pub record OnlyReads {D : Type 0} (state : D → DiskState) (whole : Bool) (old new : D) : Type 0 where
   pub calls : List DeviceEvent
   pub reads : are_reads calls ≡ true

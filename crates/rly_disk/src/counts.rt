@@ -1,8 +1,8 @@
-// The counts that a disk keeps of its calls.
+// The call counters of a disk.
 ghost use Rattle.std.specs.Prelude.{◌≡◌, ◌≤◌, ◌<◌, ◌+◌, ◌-◌, ◌^◌, ◌↔◌, IsTrue, if◌then◌else◌};
 
-/// How many calls were made of a disk, and of these how many failed, were syncs, and were reads that failed.
-/// A disk counts each of its calls here, and makes none where `is_spent`.
+/// The number of calls of a disk, and of these the failed ones, the syncs, and the failed reads. A disk counts each of
+/// its calls here, and makes none if `is_spent`.
 #[derive(Clone, Copy, Debug)]
 pub struct Counts {
     pub calls: u64,
@@ -15,7 +15,7 @@ pub struct Counts {
 }
 
 impl Counts {
-    /// No call was made.
+    /// Makes counters that are all zero.
     pub fn new() -> Self
         ensures calls { result.calls ≡ 0 }
         ensures failures { result.failures ≡ 0 }
@@ -30,7 +30,7 @@ impl Counts {
         }
     }
 
-    /// The calls stand at their last value.
+    /// Returns true iff the number of calls has its maximum value.
     pub fn is_spent(&self) -> bool
         ensures { IsTrue result ↔ (2 ^ 64 - 1 ≤ self.now.calls) }
     {

@@ -1,18 +1,19 @@
 // A disk that fails at a chosen call.
-ghost use Rattle.std.specs.Prelude.{◌≡◌, ◌≤◌, ◌<◌, ◌+◌, ◌-◌, ◌^◌, ◌∷◌, [], Bool, true, false, length, take, IsTrue, IsErr, OnOk, is_ok, slice_range};
+ghost use Rattle.std.specs.Prelude.{◌≡◌, ◌≤◌, ◌<◌, ◌+◌, ◌-◌, ◌^◌, ◌∷◌, [], Bool, true, false, length, take, IsTrue};
+ghost use Rattle.std.specs.Prelude.{IsErr, OnOk, is_ok, slice_range};
 ghost use Rattle.rly_disk.specs.DiskModel.{DiskState, IsSpent};
 ghost use Rattle.rly_disk.specs.Trace.{Makes, Read, Sync, Write};
 
 use crate::{Counts, Disk, DiskFault};
 
-/// What a disk does after the call that was chosen to fail.
+/// The behaviour of a disk after the call chosen to fail.
 #[derive(Clone, Copy, PartialEq, Eq, Drop)]
 pub enum After {
     GoesOn,
     Stops,
 }
 
-/// A disk that fails at a chosen call, and otherwise does what the disk in it does.
+/// A disk that fails at a chosen call, and passes all other calls to the disk inside.
 #[derive(Drop)]
 pub struct FaultDisk<D> {
     inner: D,
@@ -25,8 +26,9 @@ pub struct FaultDisk<D> {
 impl<D: Disk> FaultDisk<D> {
     ghost use Rattle.rly_disk.specs.FaultDisk.{inner_of, fault_plan, torn_of, fault_state, fails_next};
 
-    /// Call number `at`, counted from 1, fails; 0 is none. With `After::Stops` each later call fails too. A failing write
-    /// has put its first `torn` bytes, a failing read or sync has done nothing. The counts begin at 0.
+    /// Makes a disk whose call number `at`, counted from 1, fails; with 0 none does. With `After::Stops` each later
+    /// call fails too. A failing write writes its first `torn` bytes, a failing read or sync does nothing. The counters
+    /// begin at 0.
     pub fn new(inner: D, at: u64, torn: u64, after: After) -> Self
         ensures inner { inner_of result ≡ inner }
         ensures plan { fault_plan result ≡ (at, torn, after) }
@@ -41,7 +43,7 @@ impl<D: Disk> FaultDisk<D> {
         }
     }
 
-    /// The disk in it.
+    /// Returns the disk inside.
     pub fn into_inner(self) -> D
         ensures { result ≡ inner_of self }
     {
@@ -55,7 +57,7 @@ impl<D: Disk> FaultDisk<D> {
         inner
     }
 
-    // Whether the next call is one that was chosen to fail.
+    // Returns true iff the next call was chosen to fail.
     fn fails_next(&self) -> bool
         requires { self.now.counts.calls < 2 ^ 64 - 1 }
         ensures { result ≡ fails_next self.now }
@@ -85,12 +87,15 @@ impl<D: Disk> Disk for FaultDisk<D> {
     fn read_at(&mut self, place: u64, buffer: &mut [u8]) -> Result<(), DiskFault>
         requires { place + length buffer.old ≤ (fault_state D.state self.old).size }
         ensures bytes { (fault_state D.state self.old).honest
-            → OnOk result (buffer.new ≡ slice_range (fault_state D.state self.old).seen place (place + length buffer.old)) }
-        ensures trace { Makes (fault_state D.state) (Read place (length buffer.old) ∷ []) (is_ok result) self.old self.new }
-        // The call that was chosen fails; another is made of the disk in it, once, and does what that does.
+            → OnOk result (buffer.new
+            ≡ slice_range (fault_state D.state self.old).seen place (place + length buffer.old)) }
+        ensures trace { Makes (fault_state D.state) (Read place (length buffer.old) ∷ [])
+            (is_ok result) self.old self.new }
+        // The chosen call fails; any other is made once on the disk inside, with the same result.
         ensures chosen { IsTrue (fails_next self.old) → IsErr result }
         ensures passed { fails_next self.old ≡ false → ¬ IsSpent (fault_state D.state self.old)
-            → Makes D.state (Read place (length buffer.old) ∷ []) (is_ok result) (inner_of self.old) (inner_of self.new) }
+            → Makes D.state (Read place (length buffer.old) ∷ []) (is_ok result) (inner_of self.old)
+            (inner_of self.new) }
         ensures plan { fault_plan self.new ≡ fault_plan self.old }
         ensures nothing_done { IsTrue (fails_next self.old) → inner_of self.new ≡ inner_of self.old }
     {
@@ -109,21 +114,22 @@ impl<D: Disk> Disk for FaultDisk<D> {
     fn write_at(&mut self, place: u64, bytes: &[u8]) -> Result<(), DiskFault>
         requires { place + length bytes.now ≤ (fault_state D.state self.old).size }
         ensures trace { Makes (fault_state D.state) (Write place bytes.now ∷ []) (is_ok result) self.old self.new }
-        // The call that was chosen fails; another is made of the disk in it, once, and does what that does.
+        // The chosen call fails; any other is made once on the disk inside, with the same result.
         ensures chosen { IsTrue (fails_next self.old) → IsErr result }
         ensures passed { fails_next self.old ≡ false → ¬ IsSpent (fault_state D.state self.old)
             → Makes D.state (Write place bytes.now ∷ []) (is_ok result) (inner_of self.old) (inner_of self.new) }
         ensures plan { fault_plan self.new ≡ fault_plan self.old }
-        // Of a write that was chosen the first bytes are put, by one write, which may fail too.
+        // The first bytes of a chosen write are written, by one write, which may fail too.
         ensures put { IsTrue (fails_next self.old) → ¬ IsSpent (fault_state D.state self.old)
-            → (done : Bool) × Makes D.state (Write place (take (torn_of self.old) bytes.now) ∷ []) done (inner_of self.old) (inner_of self.new) }
+            → (done : Bool) × Makes D.state (Write place (take (torn_of self.old) bytes.now) ∷ []) done
+            (inner_of self.old) (inner_of self.new) }
     {
         if self.counts.is_spent() {
             return Err(DiskFault);
         }
         if self.fails_next() {
             let put = self.torn.min(bytes.len() as u64) as usize;
-            // Where this fails too, it is still one failure.
+            // If this fails too, it is still one failure.
             let _ = self.inner.write_at(place, &bytes[..put]);
             self.counts.count_write(true);
             return Err(DiskFault);
@@ -135,7 +141,7 @@ impl<D: Disk> Disk for FaultDisk<D> {
 
     fn sync(&mut self) -> Result<(), DiskFault>
         ensures trace { Makes (fault_state D.state) (Sync ∷ []) (is_ok result) self.old self.new }
-        // The call that was chosen fails; another is made of the disk in it, once, and does what that does.
+        // The chosen call fails; any other is made once on the disk inside, with the same result.
         ensures chosen { IsTrue (fails_next self.old) → IsErr result }
         ensures passed { fails_next self.old ≡ false → ¬ IsSpent (fault_state D.state self.old)
             → Makes D.state (Sync ∷ []) (is_ok result) (inner_of self.old) (inner_of self.new) }

@@ -1,18 +1,20 @@
-//! What follows from the events that a row of calls made, each law on a function without a body.
+//! The effects of a list of calls, from its events: laws, functions with an empty body.
 
 ghost use Rattle.std.specs.Prelude.{◌≡◌, ◌≤◌, ◌+◌, ◌++◌, ◌∷◌, [], ℕ, Bool, true, List, length};
 ghost use Rattle.rly_disk.specs.DiskModel.{LeavesOnly, SameOutside, Settled};
-ghost use Rattle.rly_disk.specs.Trace.{DeviceEvent, IsCut, Makes, Sync, WritesWithin, count_of, is_failed_call, is_sync_call};
+ghost use Rattle.rly_disk.specs.Trace.{DeviceEvent, IsCut, Makes, Sync, WritesWithin, count_of, is_failed_call};
+ghost use Rattle.rly_disk.specs.Trace.{is_sync_call};
 
 use crate::Disk;
 
-/// Of a row of calls at most one failed: after it nothing is tried again, and nothing goes on.
+/// At most one call of a list failed: it was the last one, and wasn't retried.
 pub fn law_one_failure()
-    ensures { (calls events : List DeviceEvent) (spent : Bool) → count_of is_failed_call calls ≡ 0 → IsCut spent calls events
+    ensures { (calls events : List DeviceEvent) (spent : Bool) → count_of is_failed_call calls ≡ 0
+        → IsCut spent calls events
         → count_of is_failed_call events ≤ 1 }
 {}
 
-/// Where all calls of a row were made, the disk counted them and nothing else.
+/// If all calls of a list were made, the disk's counters rose by these calls and by no others.
 pub fn law_counts<D: Disk>(old: &D, new: &D)
     ensures { (calls : List DeviceEvent) → Makes D.state calls true old.now new.now
         → ((D.state new.now).calls ≡ (D.state old.now).calls + length calls)
@@ -20,20 +22,22 @@ pub fn law_counts<D: Disk>(old: &D, new: &D)
         × ((D.state new.now).failures ≡ (D.state old.now).failures + count_of is_failed_call calls) }
 {}
 
-/// A row of calls that ends with a sync leaves nothing pending where all were made, whatever was pending before.
+/// If all calls of a list that ends with a sync were made, no write is pending, whatever was pending before.
 pub fn law_settles<D: Disk>(old: &D, new: &D)
-    ensures { (calls : List DeviceEvent) → Makes D.state (calls ++ Sync ∷ []) true old.now new.now → (D.state old.now).honest
+    ensures { (calls : List DeviceEvent) → Makes D.state (calls ++ Sync ∷ []) true old.now new.now
+        → (D.state old.now).honest
         → Settled (D.state new.now) }
 {}
 
-/// A crash at any moment of a row of calls whose writes lie in a range leaves all bytes outside it as they were.
+/// If all writes of a list of calls lie in a range, a crash at any moment of it leaves all bytes outside that range
+/// unchanged.
 pub fn law_range<D: Disk>(old: &D, new: &D)
     ensures { (calls : List DeviceEvent) (whole : Bool) (place n : ℕ) → Makes D.state calls whole old.now new.now
         → WritesWithin place n calls → place + n ≤ (D.state old.now).size → Settled (D.state old.now)
         → LeavesOnly (D.state old.now) (D.state new.now) (SameOutside place n (D.state old.now).seen) }
 {}
 
-/// Where no call was made, the disk is the same.
+/// If no call was made, the disk is unchanged.
 pub fn law_untouched<D: Disk>(old: &D, new: &D)
     ensures { Makes D.state [] true old.now new.now → new.now ≡ old.now }
 {}

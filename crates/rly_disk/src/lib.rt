@@ -1,11 +1,9 @@
-//! A disk, and what a crash may leave of it at any moment: the ground of every crash claim.
+//! The disk model: the calls of a disk, and the images that a crash may leave at any moment. Every
+//! claim about crashes rests on it.
 //!
-//! The contract of `trait Disk` is the disk model (`specs/DiskModel.antt`; docs/DEFINITIONS.md,
-//! "The disk model"). What several calls did is one list of events (`specs/Trace.antt`), and
-//! the laws here say what follows from it. `MemDisk` and `FaultDisk` keep to the model, for tests
-//! and simulations. All crates that hold a device are generic over `Disk`. Their proofs join
-//! calls by `proofs/Composition.antt` and `proofs/Traces.antt`, and speak of ranges by
-//! `proofs/Ranges.antt`.
+//! The contract of `trait Disk` is the model (`specs/DiskModel.antt`). `specs/Trace.antt`
+//! describes several calls as one list of events; the laws here give its effects. `MemDisk` and
+//! `FaultDisk` are disks for tests. Crates that use a device are generic over `Disk`.
 #![tactic(auto)]
 
 mod counts;
@@ -14,11 +12,13 @@ mod fault_disk;
 mod laws;
 mod mem;
 mod record;
-mod watched;
+mod traced_disk;
+mod trials;
 
 pub use counts::Counts;
 pub use disk::{Disk, DiskFault};
 pub use fault_disk::{After, FaultDisk};
 pub use laws::{law_counts, law_one_failure, law_range, law_settles, law_untouched};
 pub use mem::{MemDisk, Torn};
-pub use watched::{DiskCall, ToldCall, Watched};
+pub use traced_disk::{DiskCall, TracedCall, TracedDisk};
+pub use trials::{law_failed_tries, law_joined_tries, law_row, law_tried, law_tried_reads};

@@ -1,5 +1,6 @@
 // A disk in memory.
-ghost use Rattle.std.specs.Prelude.{◌≡◌, ◌≤◌, ◌<◌, ◌+◌, ◌^◌, ◌↔◌, ◌∷◌, [], List, ℕ, length, IsTrue, IsOk, OnOk, OnErr, is_ok, slice_range};
+ghost use Rattle.std.specs.Prelude.{◌≡◌, ◌≤◌, ◌<◌, ◌+◌, ◌^◌, ◌↔◌, ◌∷◌, [], List, ℕ, length, IsTrue, IsOk, OnOk, OnErr};
+ghost use Rattle.std.specs.Prelude.{is_ok, slice_range};
 ghost use Rattle.std.specs.List.{list_all};
 ghost use Rattle.rly_disk.specs.DiskModel.{DiskState, IsTorn, NothingNew, SettlesNothing, Settled, IsSpent};
 ghost use Rattle.rly_disk.specs.Trace.{Makes, Read, Sync, Write};
@@ -10,27 +11,28 @@ use crate::record::{Event, fill, is_covered, record_sync, restore, write};
 use crate::{Counts, Disk, DiskFault};
 use std::alloc::Global;
 
-/// Which image a crash leaves of the bytes that were written since the last sync.
+/// The crash image: the values of the bytes that were written since the last sync.
 #[derive(Clone, Copy, Debug, PartialEq, Eq, Drop)]
 pub enum Torn {
-    /// Each as it reads.
+    /// Each as a read returns it.
     AsRead,
-    /// Each as it was synced.
+    /// Each as at the last sync.
     AsSynced,
     /// Each is this byte.
     Fill(u8),
-    /// The first so many bytes that were put are kept, and the rest are as synced. A byte counts as often as it was put.
+    /// The first bytes written since the last sync are kept, up to this number, and the rest are as at that sync. A
+    /// byte counts at each of its writes.
     Split(u64),
 }
 
-/// A disk in memory, which keeps to the disk model.
+/// A disk in memory that meets the disk model.
 #[derive(Drop)]
 pub struct MemDisk {
     alloc: Global,
     bytes: Vec<u8>,
-    // Oldest first, and never shortened: it tells the images of earlier moments.
+    // Oldest first, and never shortened: the images of earlier moments follow from it.
     events: Vec<Event>,
-    // How many of the events came before the end of the last sync.
+    // The number of events up to the end of the last sync.
     synced: usize,
     counts: Counts,
     ghost within: { IsTrue (list_all (is_event_within (length bytes.items)) events.items) },
@@ -40,7 +42,7 @@ pub struct MemDisk {
 impl MemDisk {
     ghost use Rattle.rly_disk.specs.MemDisk.{mem_state, synced_bytes, IsLeft};
 
-    /// A disk with these bytes, all of them settled. No call of it was counted.
+    /// Makes a disk with these bytes, no write pending, and all counters zero.
     pub fn new(alloc: Global, bytes: Vec<u8>) -> Self
         ensures seen { (mem_state result).seen ≡ bytes.items }
         ensures settled { Settled (mem_state result) }
@@ -56,7 +58,7 @@ impl MemDisk {
         }
     }
 
-    /// Whether a crash at this moment may leave these bytes.
+    /// Returns true iff a crash at this moment may leave these bytes.
     #[tactic(auto, using(crate::proofs::RecordLemmas::of_record))]
     pub fn is_image(&self, image: &[u8]) -> bool
         ensures { IsTrue result ↔ (mem_state self.now).images image.now }
@@ -73,7 +75,7 @@ impl MemDisk {
         true
     }
 
-    /// The disk that a crash at this moment leaves, with nothing pending. No call of it was counted. The stack that it needs
+    /// Returns the disk after a crash at this moment, with no write pending and all counters zero. Its stack depth
     /// grows with the number of writes since the last sync.
     #[tactic(auto, using(crate::proofs::RecordLemmas::of_record))]
     pub fn crash(self, torn: Torn) -> MemDisk
@@ -120,7 +122,7 @@ impl Disk for MemDisk {
         ensures bytes { (mem_state self.old).honest
             → OnOk result (buffer.new ≡ slice_range (mem_state self.old).seen place (place + length buffer.old)) }
         ensures trace { Makes mem_state (Read place (length buffer.old) ∷ []) (is_ok result) self.old self.new }
-        // It needs no memory.
+        // It allocates nothing.
         ensures succeeds { ¬ IsSpent (mem_state self.old) → IsOk result }
         ensures as_synced { synced_bytes self.new ≡ synced_bytes self.old }
     {
@@ -136,11 +138,11 @@ impl Disk for MemDisk {
     fn write_at(&mut self, place: u64, bytes: &[u8]) -> Result<(), DiskFault>
         requires { place + length bytes.now ≤ (mem_state self.old).size }
         ensures trace { Makes mem_state (Write place bytes.now ∷ []) (is_ok result) self.old self.new }
-        // Its images are all that the model lets a write leave, no fewer.
+        // Its images are all that the model allows after a write.
         ensures exact { OnOk result ((c : List ℕ)
             → IsTorn place (length bytes.now) (mem_state self.old).images c → (mem_state self.new).images c) }
         ensures as_synced { synced_bytes self.new ≡ synced_bytes self.old }
-        // It fails only where the record can't grow, and has then done nothing.
+        // It fails only if the record can't grow, and has then done nothing.
         ensures undone { OnErr result (NothingNew (mem_state self.old) (mem_state self.new)) }
         ensures unsettled { OnErr result (SettlesNothing (mem_state self.old) (mem_state self.new)) }
     {

@@ -1,23 +1,23 @@
-// The record of a disk in memory: its writes and syncs, each write with the bytes that it replaced.
+// The record of a disk in memory: its writes and syncs, and the bytes that each write replaced.
 ghost use Rattle.std.specs.Prelude.{◌≡◌, ◌≤◌, ◌+◌, ◌∷◌, [], ◌++◌, min, length, drop, slice_range, IsTrue, OnOk, OnErr};
 ghost use Rattle.std.specs.List.{list_all};
-ghost use Rattle.rly_disk.specs.DiskModel.{overwritten};
-ghost use Rattle.rly_disk.specs.Record.{covers, is_covered, before_but, IsFilled};
+ghost use Rattle.rly_disk.specs.DiskModel.{bytes_after_write};
+ghost use Rattle.rly_disk.specs.Record.{writes_byte_at, is_covered, before_but, IsFilled};
 ghost use Rattle.rly_disk.specs.HelpersRecord.{is_event_within, put_len};
 ghost use Rattle.rly_disk.specs.declared.record.Event.TheVariants.{Written, Synced};
 
 use std::alloc::{AllocError, Global};
 
-/// What was done to a disk in memory.
+/// A change of a disk in memory.
 #[derive(Drop)]
 pub enum Event {
-    /// These bytes stood at the place before the write.
+    /// A write at offset `place`, with the bytes that it replaced.
     Written { place: usize, replaced: Vec<u8> },
     Synced,
 }
 
 impl Event {
-    /// How many bytes it wrote.
+    /// Returns the number of bytes that it wrote.
     fn len(&self) -> usize
         ensures { result ≡ put_len self.now }
     {
@@ -27,8 +27,8 @@ impl Event {
         }
     }
 
-    fn covers(&self, at: usize) -> bool
-        ensures { result ≡ covers self.now at }
+    fn writes_byte_at(&self, at: usize) -> bool
+        ensures { result ≡ writes_byte_at self.now at }
     {
         match self {
             Event::Written { place, replaced } => *place <= at && at - *place < replaced.len(),
@@ -36,7 +36,7 @@ impl Event {
         }
     }
 
-    // Puts back what it replaced, but for the first bytes, so many of which are kept.
+    // Restores the bytes that it replaced, except its first `kept`.
     fn undo(&self, bytes: &mut [u8], kept: u64)
         requires { IsTrue (is_event_within (length bytes.old) self.now) }
         ensures { bytes.new ≡ before_but kept (self.now ∷ []) bytes.old }
@@ -57,7 +57,7 @@ impl Event {
     }
 }
 
-/// Undoes the writes, the last one first, but for the first bytes that they put, so many of which are kept.
+/// Undoes the writes, the last one first, except the first `kept` bytes that they wrote.
 pub fn restore(bytes: &mut [u8], events: &[Event], kept: u64)
     requires { IsTrue (list_all (is_event_within (length bytes.old)) events.now) }
     ensures { bytes.new ≡ before_but kept events.now bytes.old }
@@ -78,14 +78,14 @@ pub fn fill(bytes: &mut [u8], events: &[Event], byte: u8)
     }
 }
 
-/// Whether one of the events wrote the byte at this place.
+/// Returns true iff one of the events wrote the byte at this offset.
 pub fn is_covered(events: &[Event], at: usize) -> bool
     ensures { result ≡ is_covered events.now at }
 {
-    events.iter().any(|event| event.covers(at))
+    events.iter().any(|event| event.writes_byte_at(at))
 }
 
-/// Writes bytes at a place. The write is recorded before it is made, and isn't made where the record can't grow.
+/// Writes bytes at an offset. Records the write first, and doesn't write if the record can't grow.
 pub fn write(
     alloc: Global,
     events: &mut Vec<Event>,
@@ -96,7 +96,7 @@ pub fn write(
     requires { place + length new.now ≤ length bytes.old.items }
     ensures ok { OnOk result ((v : _) × (v.items ≡ slice_range bytes.old.items place (place + length new.now))
         × (events.new.items ≡ events.old.items ++ Written place v ∷ [])) }
-    ensures written { OnOk result (bytes.new.items ≡ overwritten place new.now bytes.old.items) }
+    ensures written { OnOk result (bytes.new.items ≡ bytes_after_write place new.now bytes.old.items) }
     ensures err { OnErr result (events.new.items ≡ events.old.items) }
     ensures unwritten { OnErr result (bytes.new.items ≡ bytes.old.items) }
 {

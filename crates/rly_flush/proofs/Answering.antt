@@ -1,4 +1,4 @@
--- Batches are answered one after the other: the first of those that are left is answered, and the others are left.
+-- Batches are answered in order: the first of the remaining ones is answered, and the others remain.
 use Rattle.std.proofs.Common.{ℕ, zero, suc, ◌≡◌, ◌==◌, ◌+◌, ◌<◌, ◌≤◌, ◌++◌, ◌∷◌, [], List, drop, get_or, length, take, sym, refl, ap, subst, ◌∙◌, append_assoc, length-append, arith}
 use Rattle.std.specs.List.{zip}
 use Rattle.std.proofs.lemmas.List.{drop_more}
@@ -12,10 +12,10 @@ use Rattle.rly_machine.specs.History.{Entry, LegalBy, harm, harm_after, next_sta
 use Rattle.rly_machine.specs.State.{State}
 use Rattle.rly_machine.proofs.Histories.{harm_after-append, state_after-append}
 use Rattle.rly_line.specs.Batches.{AnswersView, BatchView, calls_in_batch, no_answers}
-use Rattle.rly_line.specs.Responding.{AreLeft, Responding, calls_in}
+use Rattle.rly_line.specs.ResponderView.{AreLeft, ResponderView, calls_in}
 use Rattle.rly_line.specs.Submission.{IsBeginning, calls_of}
 use Rattle.rly_line.proofs.Submitting.{length_batch}
-use Rattle.rly_flush.specs.HelpersFlushing.{answers_said, calls_said}
+use Rattle.rly_flush.specs.HelpersFlusher.{answers_said, calls_said}
 use Rattle.rly_flush.proofs.Refusing.{calls_in_append, calls_in_zip}
 
 -- a legal history in two parts
@@ -28,7 +28,7 @@ pub legal_back : (shown : Reply → Reply) (harmed : ℕ) (s : State (List ℕ))
 legal_back shown harmed s [] ys legal = legal
 legal_back shown harmed s (x ∷ xs) ys legal = legal_back shown (harm x.1.reply) (next_state s x) xs ys legal.1
 
--- calls in two parts beside their answers
+-- calls in two parts with their answers
 pub zip_parts : (xs ys : List Call) (n : ℕ) (given : List Answer) → length xs ≡ n → n ≤ length given → zip (xs ++ ys) given ≡ zip xs (take n given) ++ zip ys (drop n given)
 zip_parts [] ys zero given count enough = refl
 zip_parts [] ys (suc n) given count enough = absurd (omega (arith, count))
@@ -47,17 +47,17 @@ length_drop (suc n) [] enough = absurd (omega (arith, enough))
 length_drop (suc n) (y ∷ given) enough = let rest = length_drop n given (omega (arith, enough)) in omega (arith, rest)
 
 -- a history once these calls are answered so
-abbrev pub once_told : Responding → List Call → List Answer → List Entry
+abbrev pub once_told : ResponderView → List Call → List Answer → List Entry
 once_told line calls given = line.history ++ zip calls given
 
--- these calls are left, to be answered so, one after the other, before others that are kept; then this is the history
-pub record IsUnderWay (line : Responding) (whole : List Entry) (calls kept : List Call) (given : List Answer) : Type 0 where
+-- these calls remain, to be answered so, in order, before others that are kept; then this is the history
+pub record IsUnderWay (line : ResponderView) (whole : List Entry) (calls kept : List Call) (given : List Answer) : Type 0 where
   pub left : AreLeft line (calls ++ kept)
   pub count : length given ≡ length calls
   pub legal : LegalBy without_bytes (harm_after 0 line.history) (state_after line.start line.history) (zip calls given)
   pub history : once_told line calls given ≡ whole
 
--- the first of the batches from a place on, and where its answers go
+-- the first of the batches from an index on, and the destination of its answers
 pub said_next : (said : List (Snapshot BatchView)) (i : ℕ) (x : Snapshot BatchView) → i < length said → x ≡ get_or said i x
     → calls_said (drop i said) ≡ calls_in_batch x.value ++ calls_said (drop (i + 1) said)
 said_next said i x below is =
@@ -69,7 +69,7 @@ pub wanted_next : (said : List (Snapshot BatchView)) (i : ℕ) (x : Snapshot Bat
 wanted_next said i x below is =
     ap answers_said (drop_more said i x below) ∙ ap (λ (y : Snapshot BatchView). no_answers y.value ∷ answers_said (drop (i + 1) said)) (sym is)
 
-module _ (b : BatchView) (line : Responding) (whole : List Entry) (rest kept : List Call) (given : List Answer) (is : IsUnderWay line whole (calls_in_batch b ++ rest) kept given) where
+module _ (b : BatchView) (line : ResponderView) (whole : List Entry) (rest kept : List Call) (given : List Answer) (is : IsUnderWay line whole (calls_in_batch b ++ rest) kept given) where
   abbrev n : ℕ
   n = length b.asks
 
@@ -89,8 +89,8 @@ module _ (b : BatchView) (line : Responding) (whole : List Entry) (rest kept : L
   pub legal_first : LegalBy without_bytes (harm_after 0 line.history) (state_after line.start line.history) (zip (calls_in_batch b) (take n given))
   legal_first = legal_front without_bytes (harm_after 0 line.history) (state_after line.start line.history) (zip (calls_in_batch b) (take n given)) (zip rest (drop n given)) legal
 
-  -- once it was answered, the others are left
-  pub under_way : {now : Responding} → now.taken ≡ line.taken → now.start ≡ line.start → now.history ≡ line.history ++ zip (calls_in_batch b) (take n given)
+  -- once it was answered, the others remain
+  pub under_way : {now : ResponderView} → now.taken ≡ line.taken → now.start ≡ line.start → now.history ≡ line.history ++ zip (calls_in_batch b) (take n given)
       → IsUnderWay now whole rest kept (drop n given)
   under_way {now} taken start history =
       let first : List Entry = zip (calls_in_batch b) (take n given) in
@@ -108,15 +108,15 @@ module _ (b : BatchView) (line : Responding) (whole : List Entry) (rest kept : L
         history = ap (λ h. h ++ zip rest (drop n given)) history ∙ append_assoc line.history first (zip rest (drop n given)) ∙ ap (λ l. line.history ++ l) (sym parts) ∙ is.history;
       }
 
--- where calls and then others are a prefix of what a seat put, so are the first
+-- if calls and then others are a prefix of a seat's submitted calls, so are the first
 pub shorter : (seat : ℕ) (calls kept put : List Call) → IsBeginning seat (calls ++ kept) put → IsBeginning seat calls put
 shorter seat calls kept put begins = (
   calls_of seat kept ++ begins.0,
   begins.1 ∙ ap (λ l. l ++ begins.0) (filter-append (λ (c : Call). c.seat.0 == seat) calls kept) ∙ append_assoc (calls_of seat calls) (calls_of seat kept) begins.0,
 )
 
--- one step: the first of the answers that are wanted is for the first of the batches that are left
-module _ (line : Responding) (whole : List Entry) (said : List (Snapshot BatchView)) (i : ℕ) (x : Snapshot BatchView) (all more : List AnswersView) (w : AnswersView) (kept : List Call) (given : List Answer)
+-- one step: the first of the expected answers is for the first of the remaining batches
+module _ (line : ResponderView) (whole : List Entry) (said : List (Snapshot BatchView)) (i : ℕ) (x : Snapshot BatchView) (all more : List AnswersView) (w : AnswersView) (kept : List Call) (given : List Answer)
     (is : IsUnderWay line whole (calls_said (drop i said)) kept given) (wanted : all ≡ answers_said (drop i said)) (cut : all ≡ w ∷ more) (count : i + length all ≡ length said) (at : x ≡ get_or said i x) where
   below : i < length said
   below = omega (arith, count, ap length cut)
@@ -150,7 +150,7 @@ module _ (line : Responding) (whole : List Entry) (said : List (Snapshot BatchVi
     may_answer = subst (λ l. LegalBy without_bytes (harm_after 0 line.history) (state_after line.start line.history) (zip (calls_in_batch x.value) l)) (sym its_answers)
         (legal_first x.value line whole (calls_said (drop (i + 1) said)) kept given first)
 
-    pub next_way : {now : Responding} {left : List Answer} → left ≡ drop w.wanted given → now.taken ≡ line.taken → now.start ≡ line.start
+    pub next_way : {now : ResponderView} {left : List Answer} → left ≡ drop w.wanted given → now.taken ≡ line.taken → now.start ≡ line.start
         → now.history ≡ line.history ++ zip (calls_in_batch x.value) filled.answers → IsUnderWay now whole (calls_said (drop (i + 1) said)) kept left
     next_way {now} {left} rest taken start history =
         subst (λ l. IsUnderWay now whole (calls_said (drop (i + 1) said)) kept l) (sym (rest ∙ ap (λ n. drop n given) so_many))

@@ -1,4 +1,4 @@
--- What a crash leaves of a journal that a flusher owns, round by round.
+-- The state of a flusher's journal after a crash, round by round.
 use Rattle.std.proofs.Common.{ℕ, ◌≡◌, ◌≤◌, ◌⊎◌, inl, inr, ⊎_elim, ◌++◌, ◌∷◌, [], List, Bool, Option, None, length, true, false, refl, sym, ap, subst, ◌∙◌, arith, append_assoc, append-nil}
 use Rattle.std.proofs.lemmas.Bool.{false≢true}
 use Rattle.std.specs.List.{AllByRecursion, zip}
@@ -18,19 +18,19 @@ use Rattle.rly_machine.specs.State.{State}
 use Rattle.rly_machine.proofs.Histories.{folds, legal_append}
 use Rattle.rly_journal.specs.Journal.{IsRound, JournalState, StaysShut}
 use Rattle.rly_journal.specs.Rounds.{AreServed, refusal_of, refusals}
-use Rattle.rly_standing.specs.Standing.{Stands}
-use Rattle.rly_line.specs.Replies.{Teller}
+use Rattle.rly_journal.specs.Recovery.{Stands}
+use Rattle.rly_line.specs.Replies.{ReplyEndView}
 use Rattle.rly_line.specs.Batches.{BatchView, calls_put}
-use Rattle.rly_line.specs.Responding.{IsResponding, Responding, calls_in}
+use Rattle.rly_line.specs.ResponderView.{IsOneResponder, ResponderView, calls_in}
 use Rattle.rly_line.specs.Submission.{LineId}
-use Rattle.rly_line.proofs.Telling.{with_over}
-use Rattle.rly_flush.specs.HelpersFlushing.{AreCollected, IsFlushing, IsRounded}
-use Rattle.rly_flush.specs.Flushing.{AreHarmless, AreLostOrShut, FlusherState, GrewInRound, IsBreaking, IsCrashSafe, IsLeftIn, IsDoubtful, IsOneHistory, IsOneRound, answered_state, entries_since, folded, over_now, state_reached}
+use Rattle.rly_line.proofs.ReplyHistories.{with_over}
+use Rattle.rly_flush.specs.HelpersFlusher.{AreCollected, IsFlushing, IsRounded}
+use Rattle.rly_flush.specs.FlusherHistory.{AreHarmless, AreLostOrShut, FlusherState, GrewInRound, IsBreaking, IsCrashSafe, IsLeftIn, IsDoubtful, IsOneHistory, IsOneRound, answered_state, entries_since, fold_of_history, over_now, state_reached}
 use Rattle.rly_flush.proofs.Joining.{GoesOn, goes_on}
 use Rattle.rly_flush.proofs.Refusing.{accepted_append, all_append, all_broken, all_harmless, all_unsure, broken_accepts_none, calls_in_append, calls_in_zip, unsure_accepts_none}
 
--- a flusher once these calls came, those of a round were answered, and this batch was kept
-abbrev pub next_of : {D : Type 0} → FlusherState D → JournalState D → Option BatchView → List Teller → List Call → List Call → List Answer → FlusherState D
+-- a flusher once these calls were received, those of a round were answered, and this batch was kept
+abbrev pub next_of : {D : Type 0} → FlusherState D → JournalState D → Option BatchView → List ReplyEndView → List Call → List Call → List Answer → FlusherState D
 next_of old journal left lines came calls given = record {
   first = old.first;
   journal = journal;
@@ -58,7 +58,7 @@ refused_again : {history : List Entry} {given : List Answer} {p q : ℕ} (before
     → given ≡ refusals Broken p calls → q ≡ p → history ++ zip calls given ≡ before ++ entries_since q broke (behind ++ calls)
 refused_again {history} {given} {p} before broke behind calls whole refused same = rw (whole, refused, same, refusals_append Broken p behind calls) (simp append_assoc)
 
--- what was served on a disk was served on one that is honest only where that is
+-- served on a disk implies served on one that is honest only if that is
 served_on : (a b : DiskState) (calls : List Call) (given : List Answer) (s t : State (List ℕ)) → (b.honest → a.honest) → AreServed a calls given s t → AreServed b calls given s t
 served_on a b calls given s t right served = record {
   count = served.count;
@@ -73,7 +73,7 @@ pub still_whole : {D : Type 0} (old new : JournalState D) (calls : List Call) �
 still_whole {D} old new calls whole shut broke = absurd (false≢true (sym (ap (λ (j : JournalState D). j.broken) shut.same ∙ whole) ∙ broke))
 
 module _ {D : Type 0} (state : D → DiskState) (consistent : (disk : D) → (state disk).honest → Consistent (state disk)) where
-  -- between rounds, where the journal goes on
+  -- between rounds, if the journal goes on
   pub at_rest : (f : FlusherState D) → f.journal.state ≡ state_reached f → f.journal.broken ≡ false → Settled (state f.journal.disk) × Stands (state f.journal.disk).seen f.journal.state
       → IsCrashSafe state f f
   at_rest f same whole stands = record {
@@ -103,15 +103,15 @@ module _ {D : Type 0} (state : D → DiskState) (consistent : (disk : D) → (st
     running = λ whole. absurd (false≢true (sym whole ∙ broke));
   }
 
-  -- an image that stands for the history, or for that with the commands of a round, was left in that round
+  -- an image that represents the history, or that with the commands of a round, was left in that round
   module _ (old new : FlusherState D) (safe : IsCrashSafe state old new) (was : LegalButForBytes old.line.start old.line.history)
-      (is : LegalButForBytes old.line.start new.line.history) (at : new.journal.broken ≡ false → new.journal.state ≡ folded old.line.start new.line.history)
+      (is : LegalButForBytes old.line.start new.line.history) (at : new.journal.broken ≡ false → new.journal.state ≡ fold_of_history old.line.start new.line.history)
       (earlier : List Entry) (holds : (more : List (Command (List ℕ))) × (accepted_of old.line.history ≡ accepted_of earlier ++ more)) (none : old.journal.broken ≡ false → AreHarmless old.line.history)
       (disk : DiskState) (right : disk.honest → (state old.journal.disk).honest) where
     abbrev start : State (List ℕ)
     start = old.line.start
 
-    same : state_reached old ≡ folded start old.line.history
+    same : state_reached old ≡ fold_of_history start old.line.history
     same = (folds 0 start old.line.history was).0
 
     served : AreServed disk safe.calls safe.given (state_reached old) safe.target
@@ -119,7 +119,7 @@ module _ {D : Type 0} (state : D → DiskState) (consistent : (disk : D) → (st
 
     -- in the round that was made now
     left_now : (round : List Entry) → new.line.history ≡ old.line.history ++ round → calls_in round ≡ safe.calls
-        → (answered : (safe.target ≡ folded start (old.line.history ++ round)) ⊎ IsBreaking old.line.history round [])
+        → (answered : (safe.target ≡ fold_of_history start (old.line.history ++ round)) ⊎ IsBreaking old.line.history round [])
         → (image : List ℕ) → Stands image (state_reached old) ⊎ Stands image safe.target → IsLeftIn disk start earlier new.line.history image
     left_now round whole calls answered image stands = record {
       before = old.line.history;
@@ -140,14 +140,14 @@ module _ {D : Type 0} (state : D → DiskState) (consistent : (disk : D) → (st
 
     answered_now : (broken : Bool) → new.journal.broken ≡ broken → old.journal.broken ≡ false → (round : List Entry) → new.line.history ≡ old.line.history ++ round
         → (new.journal.broken ≡ true → (1 ≤ length safe.calls) × (round ≡ zip safe.calls (refusals Unsure old.journal.position safe.calls)))
-        → (safe.target ≡ folded start (old.line.history ++ round)) ⊎ IsBreaking old.line.history round []
+        → (safe.target ≡ fold_of_history start (old.line.history ++ round)) ⊎ IsBreaking old.line.history round []
     answered_now true broke was_whole round whole unsure = inr (record {
       some = subst (λ l. 1 ≤ length l) (sym (unsure broke).1) (as_many_calls old.journal.position safe.calls (unsure broke).0);
       unsure = subst (AllByRecursion (λ entry. entry.1.reply ≡ Refused Unsure)) (sym (unsure broke).1) (all_unsure old.journal.position safe.calls);
       harmless = none was_whole;
       broken = tt;
     })
-    answered_now false goes was_whole round whole unsure = inl (safe.running goes ∙ at goes ∙ ap (folded start) whole)
+    answered_now false goes was_whole round whole unsure = inl (safe.running goes ∙ at goes ∙ ap (fold_of_history start) whole)
 
     -- or in an earlier one, which broke the journal
     module _ (rest : List Entry) (grown : new.line.history ≡ old.line.history ++ rest) (refused : AllByRecursion (λ entry. entry.1.reply ≡ Refused Broken) rest)
@@ -163,7 +163,7 @@ module _ {D : Type 0} (state : D → DiskState) (consistent : (disk : D) → (st
           ap accepted_of whole ∙ accepted_append before (broke ++ since) ∙ ap (λ l. accepted_of before ++ l) (accepted_append broke since)
           ∙ (λ i. accepted_of before ++ (unsure_accepts_none old.journal.position safe.calls i ++ broken_accepts_none old.journal.position behind i)) ∙ append-nil (accepted_of before)
 
-      at_before : folded start old.line.history ≡ folded start before
+      at_before : fold_of_history start old.line.history ≡ fold_of_history start before
       at_before = ap (fold length start) fewer
 
       left_earlier : (image : List ℕ) → Stands image (state_reached old) ⊎ Stands image safe.target → IsLeftIn disk start earlier new.line.history image
@@ -196,7 +196,7 @@ module _ {D : Type 0} (state : D → DiskState) (consistent : (disk : D) → (st
         ⊎_elim (λ now. left_now now.1 now.2 now.3 (answered_now new.journal.broken refl now.0 now.1 now.2 now.4) image stands)
         (λ broken. left_earlier rest grown (refused broken.0) broken.1 broken.2 broken.3 broken.4 broken.5 image stands) safe.doubtful
 
-  -- all that holds at an exit
+  -- the invariant at an exit
   pub one_history : (f : FlusherState D) → IsFlushing state f → IsOneHistory state f
   one_history f is =
       let bytes = is.legal_but_for_bytes in
@@ -221,7 +221,7 @@ module _ {D : Type 0} (state : D → DiskState) (consistent : (disk : D) → (st
       }
 
   module _ (old : FlusherState D) (kept : IsFlushing state old) where
-    module _ (journal : JournalState D) (left : Option BatchView) (lines : List Teller) (came calls : List Call) (given : List Answer) (now : IsRounded state old.journal journal calls given) (some : 1 ≤ length calls) where
+    module _ (journal : JournalState D) (left : Option BatchView) (lines : List ReplyEndView) (came calls : List Call) (given : List Answer) (now : IsRounded state old.journal journal calls given) (some : 1 ≤ length calls) where
       abbrev next : FlusherState D
       next = next_of old journal left lines came calls given
 
@@ -232,11 +232,11 @@ module _ {D : Type 0} (state : D → DiskState) (consistent : (disk : D) → (st
       pub more : calls_in next.line.history ≡ calls_in old.line.history ++ calls
       more = calls_in_append old.line.history (zip calls given) ∙ ap (λ l. calls_in old.line.history ++ l) (calls_in_zip calls given on.count)
 
-      -- the history went on, and each failure in what was added is true
+      -- the history grew, and each failure in the new part is true
       pub grew : GrewInRound state old next
       grew = record { added = zip calls given; history = refl; truthful = on.truthful }
 
-      -- what a crash leaves at any moment of the round: of a journal that was broken before, which is the same
+      -- the state after a crash at any moment of the round: of a journal that was broken before, which is the same
       after_broken : journal ≡ old.journal → (state old.journal.disk).honest → old.first.broken ≡ false → old.journal.broken ≡ true → IsCrashSafe state old next
       after_broken same honest sound broke =
           let safe = kept.safe honest sound in
@@ -274,7 +274,7 @@ module _ {D : Type 0} (state : D → DiskState) (consistent : (disk : D) → (st
       pub round_safe : (state old.journal.disk).honest → old.first.broken ≡ false → IsCrashSafe state old next
       round_safe honest sound = round_safe_by now.round honest sound
 
-      -- and after it, where the journal is broken: by calls of that round or of an earlier one
+      -- and after it, if the journal is broken: by calls of that round or of an earlier one
       broken_rest : (safe : IsCrashSafe state old next) → (state journal.disk).honest → journal.broken ≡ true → IsDoubtful next next safe.calls → IsCrashSafe state next next
       broken_rest safe honest broke =
           let Left : List ℕ → Type 0 = λ image. Stands image (state_reached old) ⊎ Stands image safe.target in
@@ -318,7 +318,7 @@ module _ {D : Type 0} (state : D → DiskState) (consistent : (disk : D) → (st
       same_by (inr (inr (inr breaks))) broke = absurd (false≢true (sym breaks.0 ∙ broke))
 
       -- all of it goes on
-      pub kept_next : calls_put old.kept ++ came ≡ calls ++ calls_put left → IsResponding next.line → IsFlushing state next
+      pub kept_next : calls_put old.kept ++ came ≡ calls ++ calls_put left → IsOneResponder next.line → IsFlushing state next
       kept_next in_turn responding = record {
         responding = responding;
         start = kept.start;
@@ -335,14 +335,14 @@ module _ {D : Type 0} (state : D → DiskState) (consistent : (disk : D) → (st
         safe = λ honest sound. rest journal.broken refl honest sound;
       }
 
--- what became of a flusher in a call of `round`
+-- the effects of a call of `round` on a flusher
 pub record HasGone {D : Type 0} (state : D → DiskState) (old new : FlusherState D) : Type 0 where
   pub flushing : IsFlushing state new
   pub history : IsOneHistory state new
   pub grew : GrewInRound state old new
   pub safe : (state old.journal.disk).honest → old.first.broken ≡ false → IsCrashSafe state old new
 
--- a flusher whose line is over, or not
+-- a flusher whose queue is over, or not
 abbrev pub with_end : {D : Type 0} → Bool → FlusherState D → FlusherState D
 with_end over f = record f { line = record f.line { over = over } }
 
@@ -376,31 +376,31 @@ with_end_flushing state p {f} is = record {
 
 module _ {D : Type 0} (state : D → DiskState) (consistent : (disk : D) → (state disk).honest → Consistent (state disk)) {old : FlusherState D} (kept : IsFlushing state old) where
   -- without a round
-  pub stayed : {line : Responding} {left : Option BatchView} → old.kept ≡ None → left ≡ None → line ≡ record old.line { over = true } → HasGone state old (record old { kept = left; line = line })
+  pub stayed : {line : ResponderView} {left : Option BatchView} → old.kept ≡ None → left ≡ None → line ≡ record old.line { over = true } → HasGone state old (record old { kept = left; line = line })
   stayed {line} {left} none none_left same =
-      subst (λ (y : Option BatchView × Responding). HasGone state old (record old { kept = y.0; line = y.1 })) (λ i. ((none ∙ sym none_left) i, sym same i)) (record {
+      subst (λ (y : Option BatchView × ResponderView). HasGone state old (record old { kept = y.0; line = y.1 })) (λ i. ((none ∙ sym none_left) i, sym same i)) (record {
         flushing = with_end_flushing state true kept;
         history = one_history state consistent (over_now old) (with_end_flushing state true kept);
         grew = record { added = []; history = sym (append-nil old.line.history); truthful = tt };
         safe = λ honest sound. with_end_safe state old.line.over true (kept.safe honest sound);
       })
 
-  module _ {collected : Responding} {left : Option BatchView} {calls said : List Call} {given : List Answer} {journal : JournalState D} (taken : AreCollected old.line collected old.kept left calls) (same : said ≡ calls)
+  module _ {collected : ResponderView} {left : Option BatchView} {calls said : List Call} {given : List Answer} {journal : JournalState D} (taken : AreCollected old.line collected old.kept left calls) (same : said ≡ calls)
       (now : IsRounded state old.journal journal calls given) (some : 1 ≤ length calls) where
-    -- and they may be told
+    -- and they may be answered
     pub may_tell : LegalBy without_bytes (harm_after 0 collected.history) (state_after collected.start collected.history) (zip said given)
     may_tell =
-        subst (λ (y : Responding × List Call). LegalBy without_bytes (harm_after 0 y.0.history) (state_after y.0.start y.0.history) (zip y.1 given)) (λ i. (sym taken.line i, sym same i))
+        subst (λ (y : ResponderView × List Call). LegalBy without_bytes (harm_after 0 y.0.history) (state_after y.0.start y.0.history) (zip y.1 given)) (λ i. (sym taken.line i, sym same i))
         (on state consistent old kept journal left old.line.lines taken.came calls given now some).but_for_bytes
 
-    -- once all were told
-    pub went_on : {line : Responding} → line ≡ record collected { history = collected.history ++ zip said given; lines = line.lines } → IsResponding line
+    -- once all were answered
+    pub went_on : {line : ResponderView} → line ≡ record collected { history = collected.history ++ zip said given; lines = line.lines } → IsOneResponder line
         → HasGone state old (record { first = old.first; journal = journal; kept = left; line = line })
     went_on {line} told responding =
         let next : FlusherState D = next_of old journal left line.lines taken.came calls given in
-        let is : line ≡ next.line = told ∙ ap (λ (y : Responding × List Call). record y.0 { history = y.0.history ++ zip y.1 given; lines = line.lines }) (λ i. (taken.line i, same i)) in
-        let flushing = kept_next state consistent old kept journal left line.lines taken.came calls given now some taken.in_turn (subst IsResponding is responding) in
-        subst (λ (l : Responding). HasGone state old (record { first = old.first; journal = journal; kept = left; line = l })) (sym is) (record {
+        let is : line ≡ next.line = told ∙ ap (λ (y : ResponderView × List Call). record y.0 { history = y.0.history ++ zip y.1 given; lines = line.lines }) (λ i. (taken.line i, same i)) in
+        let flushing = kept_next state consistent old kept journal left line.lines taken.came calls given now some taken.in_turn (subst IsOneResponder is responding) in
+        subst (λ (l : ResponderView). HasGone state old (record { first = old.first; journal = journal; kept = left; line = l })) (sym is) (record {
           flushing = flushing;
           history = one_history state consistent next flushing;
           grew = grew state consistent old kept journal left line.lines taken.came calls given now some;
@@ -408,30 +408,30 @@ module _ {D : Type 0} (state : D → DiskState) (consistent : (disk : D) → (st
         })
 
     -- which was one round
-    pub one_round : {line : Responding} → line ≡ record collected { history = collected.history ++ zip said given; lines = line.lines } → IsIn 1 64 (length calls)
+    pub one_round : {line : ResponderView} → line ≡ record collected { history = collected.history ++ zip said given; lines = line.lines } → IsIn 1 64 (length calls)
         → AreLostOrShut old.journal journal calls given → IsOneRound state old (record { first = old.first; journal = journal; kept = left; line = line })
     one_round {line} told count lost = record {
       calls = calls;
       given = given;
       count = count;
-      in_turn = record { came = taken.came; taken = ap (λ (l : Responding). l.taken) told ∙ ap (λ (l : Responding). l.taken) taken.line; in_turn = taken.in_turn; full = taken.full };
-      history = ap (λ (l : Responding). l.history) told ∙ (λ i. (taken.line i).history ++ zip (same i) given);
+      in_turn = record { came = taken.came; taken = ap (λ (l : ResponderView). l.taken) told ∙ ap (λ (l : ResponderView). l.taken) taken.line; in_turn = taken.in_turn; full = taken.full };
+      history = ap (λ (l : ResponderView). l.history) told ∙ (λ i. (taken.line i).history ++ zip (same i) given);
       round = now.round;
       lost = lost;
     }
 
--- nothing was taken yet
-pub at_first : {D : Type 0} (state : D → DiskState) (consistent : (disk : D) → (state disk).honest → Consistent (state disk)) (journal : JournalState D) (of : LineId) (line : Responding) (lines : List Teller) (over : Bool)
-    → line ≡ record { of = of; taken = []; start = answered_state journal; history = []; lines = lines; over = over } → IsResponding line
+-- nothing was received yet
+pub at_first : {D : Type 0} (state : D → DiskState) (consistent : (disk : D) → (state disk).honest → Consistent (state disk)) (journal : JournalState D) (of : LineId) (line : ResponderView) (lines : List ReplyEndView) (over : Bool)
+    → line ≡ record { of = of; taken = []; start = answered_state journal; history = []; lines = lines; over = over } → IsOneResponder line
     → (journal.broken ≡ false → journal.position ≡ journal.state.seq)
     → ((state journal.disk).honest → journal.broken ≡ false → Settled (state journal.disk) × Stands (state journal.disk).seen journal.state)
     → IsFlushing state (record { first = journal; journal = journal; kept = None; line = line })
 at_first {D} state consistent journal of line lines over is responding counted durable =
     let same : journal.broken ≡ false → answered_state journal ≡ journal.state = λ whole. ap (λ n. record journal.state { seq = n }) (counted whole) in
-    let at : Responding = record { of = of; taken = []; start = answered_state journal; history = []; lines = lines; over = over } in
-    subst (λ (l : Responding). IsFlushing state (record { first = journal; journal = journal; kept = None; line = l })) (sym is)
+    let at : ResponderView = record { of = of; taken = []; start = answered_state journal; history = []; lines = lines; over = over } in
+    subst (λ (l : ResponderView). IsFlushing state (record { first = journal; journal = journal; kept = None; line = l })) (sym is)
     (record {
-      responding = subst IsResponding is responding;
+      responding = subst IsOneResponder is responding;
       start = refl;
       as_given = same;
       answered = refl;

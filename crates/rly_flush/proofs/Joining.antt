@@ -15,10 +15,10 @@ use Rattle.rly_machine.specs.State.{State}
 use Rattle.rly_machine.proofs.Histories.{harm_after-append, legal_but_for_bytes, state_after-append}
 use Rattle.rly_journal.specs.Journal.{Goes, HasFailedRead, IsRound, JournalState, StaysShut}
 use Rattle.rly_journal.specs.Rounds.{AreUnreadWhere, refusal_of, refusals}
-use Rattle.rly_flush.specs.Flushing.{AreHarmless, IsTruthful}
+use Rattle.rly_flush.specs.FlusherHistory.{AreHarmless, IsTruthful}
 use Rattle.rly_flush.proofs.Refusing.{all_refused, broken_truthful, harmless_after, harmless_truthful, most_after, refused_legal, refused_stays, served_harmless, unsure_truthful}
 
--- what the answers of a round are to the history
+-- the answers of a round as a part of the history
 pub record GoesOn {D : Type 0} (state : D → DiskState) (old new : JournalState D) (start : State (List ℕ)) (history : List Entry) (calls : List Call) (given : List Answer) : Type 0 where
   pub count : length given ≡ length calls
   pub legal : (state old.disk).honest → LegalBy (λ reply. reply) (harm_after 0 history) (state_after start history) (zip calls given)

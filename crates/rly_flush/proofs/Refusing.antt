@@ -16,8 +16,8 @@ use Rattle.rly_machine.specs.declared.command.Ask.TheVariants as asked
 use Rattle.rly_machine.specs.State.{State}
 use Rattle.rly_machine.proofs.RealReplies.{harmless}
 use Rattle.rly_journal.specs.Rounds.{AreUnreadWhere, IsFetch, OnlyLost, refusal_of, refusals}
-use Rattle.rly_line.specs.Responding.{calls_in}
-use Rattle.rly_flush.specs.Flushing.{AreHarmless, IsTruthful}
+use Rattle.rly_line.specs.ResponderView.{calls_in}
+use Rattle.rly_flush.specs.FlusherHistory.{AreHarmless, IsTruthful}
 
 -- the calls of a history that goes on
 pub calls_in_append : (xs ys : List Entry) → calls_in (xs ++ ys) ≡ calls_in xs ++ calls_in ys
@@ -26,7 +26,7 @@ calls_in_append xs ys = map-append (λ (e : Entry). e.0) xs ys
 pub calls_in_zip : (calls : List Call) (given : List Answer) → length given ≡ length calls → calls_in (zip calls given) ≡ calls
 calls_in_zip calls given count = firsts-zip calls given count
 
--- what holds of each entry may hold of it for a weaker reason
+-- a property of each entry may hold for a weaker reason
 pub all_weaker : (P Q : Entry → Type 0) → ((x : Entry) → P x → Q x) → (xs : List Entry) → AllByRecursion P xs → AllByRecursion Q xs
 all_weaker P Q more [] all = tt
 all_weaker P Q more (x ∷ xs) all = (more x all.0, all_weaker P Q more xs all.1)
@@ -45,7 +45,7 @@ refused_stays refusal p s [] fails = refl
 refused_stays refusal p s (call ∷ calls) fails =
     ap (λ x. state_after x (zip calls (refusals refusal p calls))) (stays_at refusal p s call fails) ∙ refused_stays refusal p s calls fails
 
--- at the position of that state it may stand in a history, where no more harm was told before
+-- at the position of that state it may be in a history, if no more harm was reported before
 refused_answer : (refusal : Refusal) (p harmed : ℕ) (s : State (List ℕ)) (call : Call) → is_failure (Refused refusal) ≡ true → harmed ≤ harm (Refused refusal) → p ≡ s.seq
     → IsAnswered (λ reply. reply) harmed s (call, refusal_of refusal p call)
 refused_answer refusal p harmed s call fails low at = record {
@@ -65,7 +65,7 @@ refused_legal refusal p harmed s (call ∷ calls) fails low at = (
       (refused_legal refusal p (harm (Refused refusal)) s calls fails (omega arith) at),
 )
 
--- what holds of each refusal of a round holds of them all
+-- a property of each refusal of a round holds for all of them
 pub all_refused : (P : Entry → Type 0) (refusal : Refusal) (p : ℕ) → ((call : Call) → P (call, refusal_of refusal p call)) → (calls : List Call)
     → AllByRecursion P (zip calls (refusals refusal p calls))
 all_refused P refusal p each [] = tt
@@ -95,7 +95,7 @@ module _ (failed broken unread : Type 0) where
   still_truthful failed' broken' unread' fails breaks reads xs all = all_weaker (IsTruthful failed broken unread) (IsTruthful failed' broken' unread')
       (λ x t. record { unsure = λ e. fails (t.unsure e); broken_before = λ e. breaks (t.broken_before e); unreadable = λ e. reads (t.unreadable e) }) xs all
 
-  -- where no harm is told, no write and no sync failed
+  -- if no harm is reported, no write and no sync failed
   pub harmless_truthful : (xs : List Entry) → AreHarmless xs → AreUnreadWhere unread xs → AreTruthful xs
   harmless_truthful [] none all = tt
   harmless_truthful (x ∷ xs) none all = (
@@ -107,7 +107,7 @@ module _ (failed broken unread : Type 0) where
     harmless_truthful xs none.1 all.1,
   )
 
--- want of memory and a read that failed do no harm
+-- refused memory and a failed read do no harm
 harmless_by : (Fetches : Type 0) (reply : Reply) (fails : Bool) → is_failure reply ≡ fails
     → (is_failure reply ≡ true → (reply ≡ Refused OutOfMemory) ⊎ ((reply ≡ Refused DeviceRead) × Fetches)) → harm reply ≡ 0
 harmless_by Fetches reply true is only = ⊎_elim (λ memory. ap harm memory) (λ read. ap harm read.0) (only is)
@@ -131,7 +131,7 @@ pub most_after : (harmed : ℕ) (xs : List Entry) → harmed ≤ harm (Refused B
 most_after harmed [] low = low
 most_after harmed (x ∷ xs) low = most_after (harm x.1.reply) xs (most x.1.reply)
 
--- harm never falls, so where none was told last, none was told before
+-- harm never falls, so if none was reported last, none was reported before
 lowest : (shown : Reply → Reply) (harmed : ℕ) (s : State (List ℕ)) (xs : List Entry) → LegalBy shown harmed s xs → harmed ≤ harm_after harmed xs
 lowest shown harmed s [] legal = omega arith
 lowest shown harmed s (x ∷ xs) legal = let rest = lowest shown (harm x.1.reply) (next_state s x) xs legal.1 in omega (arith, legal.0.harm, rest)

@@ -1,4 +1,4 @@
--- Round follows round: what holds of each holds of them all.
+-- Round follows round: a property of each holds for all of them.
 use Rattle.std.proofs.Common.{ℕ, ◌≡◌, ◌⊎◌, inl, inr, ⊎_elim, ◌++◌, ◌∷◌, [], List, Bool, true, false, refl, sym, ap, subst, ◌∙◌, arith, append_assoc, append-nil}
 use Rattle.std.proofs.lemmas.Bool.{false≢true}
 use Rattle.std.specs.Prelude.{MatchBool}
@@ -13,9 +13,9 @@ use Rattle.rly_machine.specs.declared.reply.Reply.TheVariants.{Refused}
 use Rattle.rly_machine.specs.History.{Entry, LegalButForBytes, accepted_of}
 use Rattle.rly_machine.specs.State.{State}
 use Rattle.rly_journal.specs.Journal.{HasFailedRead, IsRound, JournalState}
-use Rattle.rly_standing.specs.Standing.{Stands}
+use Rattle.rly_journal.specs.Recovery.{Stands}
 use Rattle.rly_line.specs.EndViews.{names_of}
-use Rattle.rly_flush.specs.Flushing.{AreHarmless, AreRounds, FlusherState, GrewInRound, IsBreaking, IsContinued, IsCrashSafe, IsKeptSince, IsMadeRound, IsOneHistory, IsOneRound, IsLeftIn, IsTruthful, IsWritten, MayFollow, MayGoOn, folded, over_now, state_reached}
+use Rattle.rly_flush.specs.FlusherHistory.{AreHarmless, AreRounds, FlusherState, GrewInRound, IsBreaking, IsContinued, IsCrashSafe, IsKeptSince, IsMadeRound, IsOneHistory, IsOneRound, IsLeftIn, IsTruthful, IsWritten, MayFollow, MayGoOn, fold_of_history, over_now, state_reached}
 use Rattle.rly_flush.proofs.Crashing.{left_in, still_whole, with_end}
 use Rattle.rly_flush.proofs.Refusing.{accepted_append, all_append, all_broken, harmful, still_truthful}
 use Rattle.rly_journal.proofs.Unread.{unread_earlier, unread_later}
@@ -38,7 +38,7 @@ may_follow f [] may = tt
 may_follow f (g ∷ rounds) may = may
 
 module _ {D : Type 0} (state : D → DiskState) where
-  -- a round goes by all of a flusher but whether it is over
+  -- a round depends on all of a flusher except whether it is over
   over_made : (a e : FlusherState D) (p : Bool) → IsMadeRound state (with_end p a) e → IsMadeRound state a e
   over_made a e p made = record {
     one = record {
@@ -138,16 +138,16 @@ module _ {D : Type 0} (state : D → DiskState) (consistent : (disk : D) → (st
     added_broken false same broke = subst (AllByRecursion AsBroken)
         (append_cancel_left b.line.history [] grew.added (append-nil b.line.history ∙ sym (ap (λ (f : FlusherState D). f.line.history) same) ∙ grew.history)) tt
 
-    -- what was accepted up to a moment was accepted before this round
+    -- a command accepted up to a moment was accepted before this round
     held : (state b.journal.disk).honest → (f : FlusherState D) → IsKeptSince state a.line.start b f → (round : IsCrashSafe state b e) (image : List ℕ) → Stands image (state_reached b) ⊎ Stands image round.target
         → IsLeftIn (state f.journal.disk) a.line.start f.line.history e.line.history image
     held right f kept round image stands =
         let left = left_in state consistent b e round so_far.history.legal_but_for_bytes (subst (λ s. LegalButForBytes s e.line.history) start history.legal_but_for_bytes)
-        (subst (λ s. e.journal.broken ≡ false → e.journal.state ≡ folded s e.line.history) start history.state_is) f.line.history
+        (subst (λ s. e.journal.broken ≡ false → e.journal.state ≡ fold_of_history s e.line.history) start history.state_is) f.line.history
         (accepted_of kept.went_on.0, ap accepted_of kept.went_on.1 ∙ accepted_append f.line.history kept.went_on.0) so_far.history.harmless (state f.journal.disk) (λ _. right) grew.added grew.history (added_broken made took) image stands in
         subst (λ s. IsLeftIn (state f.journal.disk) s f.line.history e.line.history image) so_far.start left
 
-    -- where a round before broke the journal, it is broken
+    -- if a round before broke the journal, it is broken
     was_broken : (broken : Bool) → b.journal.broken ≡ broken → (before round rest : List Entry) → b.line.history ≡ before ++ (round ++ rest) → IsBreaking before round rest → b.journal.broken ≡ true
     was_broken true broke before round rest whole breaks = broke
     was_broken false goes before round rest whole breaks = harmful before round rest breaks.some breaks.unsure (subst AreHarmless whole (so_far.history.harmless goes))

@@ -1,2 +1,2 @@
-pub mod HelpersFlushing
-pub mod Flushing
+pub mod HelpersFlusher
+pub mod FlusherHistory

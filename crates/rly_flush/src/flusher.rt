@@ -1,12 +1,14 @@
-ghost use Rattle.std.specs.Prelude.{◌≡◌, ◌≤◌, ◌↔◌, ℕ, [], None, false, true, length, map, vec_capacity, IfErr, IfOk, MatchBool};
+ghost use Rattle.std.specs.Prelude.{◌≡◌, ◌≤◌, ◌↔◌, ℕ, [], None, false, true, length, map, vec_capacity, IfErr, IfOk};
+ghost use Rattle.std.specs.Prelude.{MatchBool};
 ghost use Rattle.std.specs.List.{range_with_len};
 ghost use Rattle.rly_core.specs.Bounds.{IsIn};
 ghost use Rattle.rly_disk.specs.DiskModel.{Later};
-ghost use Rattle.rly_line.specs.EndViews.{names_of, new_tellers};
-ghost use Rattle.rly_line.specs.Responding.{IsLeftBy, calls_in};
+ghost use Rattle.rly_line.specs.EndViews.{names_of, new_reply_ends};
+ghost use Rattle.rly_line.specs.ResponderView.{IsLeftBy, calls_in};
 ghost use Rattle.rly_line.specs.Submission.{IsBeginning};
-ghost use Rattle.rly_flush.specs.Flushing.{AreLostOrShut, GrewInRound, IsCrashSafe, IsOneHistory, IsOneRound, IsServed, new_flusher, over_now};
-ghost use Rattle.rly_flush.specs.HelpersFlushing.{IsRounded};
+ghost use Rattle.rly_flush.specs.FlusherHistory.{AreLostOrShut, GrewInRound, IsCrashSafe, IsOneHistory, IsOneRound};
+ghost use Rattle.rly_flush.specs.FlusherHistory.{IsServed, new_flusher, over_now};
+ghost use Rattle.rly_flush.specs.HelpersFlusher.{IsRounded};
 
 use crate::owned_journal::OwnedJournal;
 use crate::round_calls::{Lists, answer_all, collect};
@@ -19,8 +21,8 @@ use std::marker::Model;
 use std::snapshot::Snapshot;
 use std::sync::Wait;
 
-/// The one thread that owns the journal, at the end of all seats' lines. Contracts see the journal that it was given,
-/// that journal now, the batch that is kept for the next round, and what became of the calls.
+/// The one thread that owns the journal, at the receiving end of all queues. The model: the journal at first and
+/// now, the batch kept for the next round, and the calls with their answers.
 #[derive(Drop)]
 pub struct Flusher<D: Disk> {
     alloc: Global,
@@ -32,38 +34,40 @@ pub struct Flusher<D: Disk> {
 }
 
 impl<D: Disk> Model for Flusher<D> {
-    ghost use Rattle.rly_flush.specs.HelpersFlushing.{IsFlushing, IsReady};
-    ghost use Rattle.rly_flush.specs.Flushing.{FlusherState};
+    ghost use Rattle.rly_flush.specs.HelpersFlusher.{IsFlushing, IsRoundReady};
+    ghost use Rattle.rly_flush.specs.FlusherHistory.{FlusherState};
 
     ghost Value = { FlusherState D };
 
-    ghost view = { λ f. record { first = f.first.value.journal; journal = f.owned.journal; kept = f.kept; line = f.line } };
+    ghost view = { λ f.
+        record { first = f.first.value.journal; journal = f.owned.journal; kept = f.kept; line = f.line } };
 
-    ghost invariant = { λ f. IsFlushing D.state (record { first = f.first.value.journal; journal = f.owned.journal; kept = f.kept; line = f.line })
-        × IsReady f.lists };
+    ghost invariant = { λ f. IsFlushing D.state
+        (record { first = f.first.value.journal; journal = f.owned.journal; kept = f.kept; line = f.line })
+        × IsRoundReady f.lists };
 }
 
-/// What a flusher leaves once it has ended.
+/// The result of a flusher that ended.
 #[derive(Drop)]
 pub struct Finished<D: Disk> {
     /// Whether a write or a sync failed: the journal refuses every call until the device is opened again.
     pub broken: bool,
     pub journal: Journal<D>,
-    /// Its end of all seats' lines, closed: who has a seat that was left learns there what its answers stand on.
+    /// Its end of all queues, closed: the laws of the seats that left are on it.
     pub lines: ClosedEnd,
-    /// The flusher at its end, for proofs: its history, and the journal that was given. It takes no room.
+    /// The flusher at its end, for proofs: its history, and the journal at first. It has no size at run time.
     pub last: Snapshot<Flusher<D>>,
 }
 
 impl<D: Disk> Flusher<D> {
-    /// Owns a journal, at the end of new lines. Where memory is refused for one round of 64 calls, both are handed
-    /// back; no later round needs any for its calls and answers.
+    /// Takes ownership of a journal, at the end of new queues. If memory is refused for one round of 64 calls,
+    /// hands both back; later rounds take no memory for their calls and answers.
     pub fn new(
         alloc: Global,
         journal: Journal<D>,
         line_end: LineEnd,
     ) -> Result<Flusher<D>, (Journal<D>, LineEnd)>
-        requires { line_end ≡ record line_end { taken = []; lines = new_tellers 0 (names_of line_end.lines) } }
+        requires { line_end ≡ record line_end { taken = []; lines = new_reply_ends 0 (names_of line_end.lines) } }
         ensures begins { IfOk result (λ flusher. flusher ≡ new_flusher journal line_end) }
         ensures history { IfOk result (λ flusher. IsOneHistory D.state flusher) }
         ensures refused { IfErr result (λ back. (back.0 ≡ journal) × (back.1 ≡ line_end)) }
@@ -86,24 +90,25 @@ impl<D: Disk> Flusher<D> {
         })
     }
 
-    /// Takes the batch that was kept, or else waits for one, takes more while there are any and they hold at most 64
-    /// calls together, makes one round of the journal for them, and answers each batch in its seat's line. The batch
-    /// that did not fit is kept for the next round. On a broken journal it takes no more than one. False: no batch was
-    /// left, and no seat.
+    /// Takes the batch that was kept, or else waits for one, takes more while there are any and they hold at most
+    /// 64 calls together, makes one round of the journal for them, and answers each batch. A batch that does not
+    /// fit is kept for the next round. On a broken journal, takes only one. Returns false if no batch and no seat
+    /// is left.
     pub fn round<R: Wait>(&mut self, rt: &R) -> bool
-        // It answers true exactly where it made one round of the journal, for the batch that was kept and those it took.
+        // Returns true iff it made one round of the journal, for the batch that was kept and those it received.
         ensures took { MatchBool result (IsOneRound D.state self.old self.new) (self.new ≡ over_now self.old) }
         ensures none_kept { result ≡ false → self.old.kept ≡ None }
-        // Where the journal was broken it takes one batch alone, and keeps none.
+        // On a broken journal it takes one batch alone, and keeps none.
         ensures alone { self.old.journal.broken ≡ true → self.new.kept ≡ None }
         ensures first { self.new.first ≡ self.old.first }
         ensures of { self.new.line.of ≡ self.old.line.of }
         ensures start { self.new.line.start ≡ self.old.line.start }
         ensures names { names_of self.new.line.lines ≡ names_of self.old.line.lines }
         ensures history { IsOneHistory D.state self.new }
-        // What this round adds tells of a failure only where there was one.
+        // An answer of this round reports a failure only if one occurred.
         ensures failures { GrewInRound D.state self.old self.new }
-        ensures any_moment { (D.state self.old.journal.disk).honest → self.old.first.broken ≡ false → IsCrashSafe D.state self.old self.new }
+        ensures any_moment { (D.state self.old.journal.disk).honest → self.old.first.broken ≡ false
+            → IsCrashSafe D.state self.old self.new }
         ensures later { Later (D.state self.old.journal.disk) (D.state self.new.journal.disk) }
     {
         let alone = self.owned.journal.is_broken();
@@ -126,8 +131,9 @@ impl<D: Disk> Flusher<D> {
         true
     }
 
-    /// Makes rounds until each seat is left or gone, or until the journal is broken and each batch that was taken is answered, and
-    /// gives the journal back. What is left in the line is Lost to its seat, and each later call is Closed.
+    /// Makes rounds until each seat left or was dropped, or until the journal is broken and each received batch is
+    /// answered, and hands the journal back. A batch left in the queue returns `Lost` to its seat, and each later
+    /// call `Closed`.
     pub fn serve<R: Wait>(self, rt: &R) -> Finished<D>
         ensures broken { result.broken ≡ result.journal.broken }
         ensures journal { result.last.value.journal ≡ result.journal }
@@ -151,15 +157,15 @@ impl<D: Disk> Flusher<D> {
         self.owned.journal.is_broken() && self.kept.is_none()
     }
 
-    /// What is true of every flusher at each moment.
+    /// The invariant of a flusher.
     pub fn law_history(&self)
         ensures { IsOneHistory D.state self.now }
     {
         let _ = &self.line;
     }
 
-    /// What is true of each seat at this line, at each moment: the asks that the history has of it are a beginning, ask for
-    /// ask, of those that it put.
+    /// The law of each seat at this queue, at each moment: its asks in the history are a prefix, ask for ask, of
+    /// the asks that it submitted.
     pub fn law_beginning(&mut self, seat: Seat) -> Seat
         requires { seat.of ≡ self.old.line.of }
         ensures same { (self.new ≡ self.old) × (result ≡ seat) }
@@ -168,14 +174,14 @@ impl<D: Disk> Flusher<D> {
         self.line.law_beginning(seat)
     }
 
-    /// So many seats are gone that didn't say so, since no one had them: it doesn't wait for those.
+    /// Stops waiting for `seats` seats that were dropped without leaving.
     pub fn forget(&mut self, seats: usize)
         ensures { self.new ≡ self.old }
     {
         self.line.forget(seats);
     }
 
-    /// The journal, given back, and the lines, closed.
+    /// Hands the journal back, and closes the queues.
     fn into_finished<R: Wait>(self, rt: &R) -> Finished<D>
         ensures broken { result.broken ≡ result.journal.broken }
         ensures journal { result.journal ≡ self.journal }
@@ -201,7 +207,7 @@ impl<D: Disk> Flusher<D> {
     }
 }
 
-/// Makes one round of a journal, for which there is room.
+/// Makes one round of a journal, which has room for it.
 fn commit<D: Disk>(
     alloc: Global,
     journal: &mut Journal<D>,

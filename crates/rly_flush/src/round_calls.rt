@@ -1,43 +1,44 @@
 //! The batches of one round, and their answers.
 
-ghost use Rattle.std.specs.Prelude.{◌≡◌, ◌+◌, ◌<◌, ◌≤◌, ◌++◌, ◌∷◌, [], List, None, false, true, length, map, vec_capacity, IfNone, IfOk, IfSome, MatchBool};
+ghost use Rattle.std.specs.Prelude.{◌≡◌, ◌+◌, ◌<◌, ◌≤◌, ◌++◌, ◌∷◌, [], List, None, false, true, length, map};
+ghost use Rattle.std.specs.Prelude.{vec_capacity, IfNone, IfOk, IfSome, MatchBool};
 ghost use Rattle.std.specs.List.{zip};
 ghost use Rattle.rly_core.specs.Bounds.{IsIn};
 ghost use Rattle.rly_machine.specs.declared.call.Call.{Call as ACall};
 ghost use Rattle.rly_machine.specs.History.{LegalBy, harm_after, state_after, without_bytes};
 ghost use Rattle.rly_line.specs.Batches.{calls_in_batch, calls_put, no_answers};
 ghost use Rattle.rly_line.specs.EndViews.{names_of};
-ghost use Rattle.rly_line.specs.Responding.{AreLeft, IsResponding};
-ghost use Rattle.rly_flush.specs.HelpersFlushing.{AreCollected, HasRoom, IsReady, answers_said, calls_said};
+ghost use Rattle.rly_line.specs.ResponderView.{AreLeft, IsOneResponder};
+ghost use Rattle.rly_flush.specs.HelpersFlusher.{AreCollected, HasRoundRoom, IsRoundReady, answers_said, calls_said};
 
 use rly_core::limits;
-use rly_line::{Answers, Batch, Responder, Standing};
+use rly_line::{Answers, Batch, HasState, Responder};
 use rly_machine::{Answer, Call};
 use std::alloc::{AllocError, Global};
 use std::marker::Model;
 use std::snapshot::Snapshot;
 use std::sync::Wait;
 
-/// So many calls a round takes at most.
+/// Maximum number of calls in a round.
 const MAX_CALLS: usize = limits::MAX_ROUND as usize;
 
-/// The lists of one round, which are empty between rounds. Their memory is reserved once.
+/// The lists of one round, empty between rounds. Their memory is reserved once.
 #[derive(Drop)]
 pub(crate) struct Lists {
     /// The calls of its batches.
     pub(crate) calls: Vec<Call>,
-    /// Its batches, for the history. They take no room.
+    /// Its batches, for the history. They have no size at run time.
     pub(crate) said: Vec<Snapshot<Batch>>,
-    /// Where the answers to each batch go.
+    /// The destination of each batch's answers.
     pub(crate) wanted: Vec<Answers>,
     /// The answers to the calls.
     pub(crate) answers: Vec<Answer>,
 }
 
 impl Lists {
-    /// Empty lists with room for one round.
+    /// Empty lists with room for one round, or the refusal of memory.
     pub(crate) fn reserve(alloc: Global) -> Result<Lists, AllocError>
-        ensures { IfOk result (λ lists. IsReady lists) }
+        ensures { IfOk result (λ lists. IsRoundReady lists) }
     {
         let calls = Vec::with_capacity(alloc, MAX_CALLS)?;
         let said = Vec::with_capacity(alloc, MAX_CALLS)?;
@@ -51,7 +52,7 @@ impl Lists {
         })
     }
 
-    /// Adds a batch, whose calls there is room for.
+    /// Adds a batch; there is room for its calls.
     fn add(&mut self, batch: Batch)
         requires calls_room { length self.old.calls.items + length batch.asks ≤ vec_capacity self.old.calls }
         requires said_room { length self.old.said.items < vec_capacity self.old.said }
@@ -72,17 +73,17 @@ impl Lists {
     }
 }
 
-/// The batch that was kept, or else the next of the line, which it waits for. None: no batch was left, and no seat.
-fn first_batch<T: Standing, R: Wait>(
+/// The batch that was kept, or else the next of the queue, after a wait. `None`: no batch and no seat is left.
+fn first_batch<T: HasState, R: Wait>(
     rt: &R,
     line: &mut Responder<T>,
     kept: &mut Option<Batch>,
 ) -> Option<Batch>
-    requires holds { IsResponding line.old }
+    requires holds { IsOneResponder line.old }
     ensures emptied { kept.new ≡ None }
     ensures some { IfSome result (λ batch. AreCollected line.old line.new kept.old None (calls_in_batch batch)) }
     ensures none { IfNone result ((kept.old ≡ None) × (line.new ≡ record line.old { over = true })) }
-    ensures holds { IsResponding line.new }
+    ensures holds { IsOneResponder line.new }
 {
     match kept.take() {
         Some(batch) => Some(batch),
@@ -90,27 +91,29 @@ fn first_batch<T: Standing, R: Wait>(
     }
 }
 
-/// Collects the batches of a round: the one that was kept or else the next of the line, which it waits for, and more
-/// while there are any and they hold at most 64 calls together. The one that doesn't fit is kept. False: no batch was
-/// left, and no seat. A round that is to be of one batch alone takes no other.
-pub(crate) fn collect<T: Standing, R: Wait>(
+/// Collects the batches of a round: the one that was kept or else the next of the queue, after a wait, and more
+/// while there are any and they hold at most 64 calls together. Keeps the one that doesn't fit. Returns false if no
+/// batch and no seat is left. A round of one batch alone takes no other.
+pub(crate) fn collect<T: HasState, R: Wait>(
     rt: &R,
     line: &mut Responder<T>,
     kept: &mut Option<Batch>,
     lists: &mut Lists,
     alone: bool,
 ) -> bool
-    requires holds { IsResponding line.old }
-    requires ready { IsReady lists.old }
-    ensures stayed { result ≡ false → (kept.old ≡ None) × (kept.new ≡ None) × (line.new ≡ record line.old { over = true }) × (lists.new ≡ lists.old) }
+    requires holds { IsOneResponder line.old }
+    requires ready { IsRoundReady lists.old }
+    ensures stayed { result ≡ false
+        → (kept.old ≡ None) × (kept.new ≡ None) × (line.new ≡ record line.old { over = true })
+        × (lists.new ≡ lists.old) }
     ensures collected { result ≡ true → AreCollected line.old line.new kept.old kept.new lists.new.calls.items }
     ensures alone { alone ≡ true → kept.new ≡ None }
     ensures said { calls_said lists.new.said.items ≡ lists.new.calls.items }
     ensures wanted { lists.new.wanted.items ≡ answers_said lists.new.said.items }
     ensures count { MatchBool result (IsIn 1 64 (length lists.new.calls.items)) (lists.new.calls.items ≡ []) }
     ensures answers { lists.new.answers.items ≡ [] }
-    ensures room { HasRoom lists.new }
-    ensures holds { IsResponding line.new }
+    ensures room { HasRoundRoom lists.new }
+    ensures holds { IsOneResponder line.new }
 {
     let Some(first) = first_batch(rt, line, kept) else {
         return false;
@@ -133,27 +136,32 @@ pub(crate) fn collect<T: Standing, R: Wait>(
     true
 }
 
-/// Answers batches that were taken and are not answered yet, each in its seat's line.
-pub(crate) fn answer_all<T: Standing, R: Wait>(
+/// Answers the batches that were received and are not answered yet, each to its seat.
+pub(crate) fn answer_all<T: HasState, R: Wait>(
     rt: &R,
     line: &mut Responder<T>,
     said: &mut Vec<Snapshot<Batch>>,
     wanted: &mut Vec<Answers>,
     answers: &mut Vec<Answer>,
 )
-    requires holds { IsResponding line.old }
+    requires holds { IsOneResponder line.old }
     requires left { (left : List ACall) × AreLeft line.old (calls_said said.old.items ++ left) }
     requires wanted { wanted.old.items ≡ answers_said said.old.items }
     requires count { length answers.old.items ≡ length (calls_said said.old.items) }
     requires legal { LegalBy without_bytes (harm_after 0 line.old.history) (state_after line.old.start line.old.history)
         (zip (calls_said said.old.items) answers.old.items) }
-    ensures line { line.new ≡ record line.old { history = line.old.history ++ zip (calls_said said.old.items) answers.old.items; lines = line.new.lines } }
+    ensures line { line.new
+        ≡ record line.old {
+          history = line.old.history
+              ++ zip (calls_said said.old.items) answers.old.items;
+          lines = line.new.lines;
+        } }
     ensures names { names_of line.new.lines ≡ names_of line.old.lines }
     ensures emptied { (said.new.items ≡ []) × (wanted.new.items ≡ []) × (answers.new.items ≡ []) }
     ensures said_capacity { vec_capacity said.new ≡ vec_capacity said.old }
     ensures wanted_capacity { vec_capacity wanted.new ≡ vec_capacity wanted.old }
     ensures answers_capacity { vec_capacity answers.new ≡ vec_capacity answers.old }
-    ensures holds { IsResponding line.new }
+    ensures holds { IsOneResponder line.new }
 {
     let mut next = 0;
     for wanted in wanted.drain(..) {

@@ -1,4 +1,4 @@
--- The calls of a device that groups are written and read by.
+-- The device calls that write and read groups.
 use Rattle.std.specs.Prelude.{◌+◌, ℕ, Bool, true, false, List, [], ◌∷◌, ◌++◌, length, nat_le, if◌then◌else◌}
 use Rattle.std.specs.Prelude.{Option, Some, None, Result, Ok, Err, Vec}
 use Rattle.rly_disk.specs.Trace.{DeviceEvent, Read, Sync, Write}
@@ -8,32 +8,32 @@ use Rattle.rly_gate.specs.declared.read.ReadFault.{ReadFault}
 use Rattle.rly_gate.specs.declared.read.ReadFault.TheVariants as read
 use Rattle.rly_gate.specs.Group.{frame_of, open_gate}
 
--- bytes are made durable at a place: one write, none for no bytes, and a sync
-abbrev pub settling : ℕ → List ℕ → List DeviceEvent
-settling at [] = Sync ∷ []
-settling at (byte ∷ bytes) = Write at (byte ∷ bytes) ∷ Sync ∷ []
+-- the calls that make bytes durable at an offset: one write, none for no bytes, and a sync
+abbrev pub settle_calls : ℕ → List ℕ → List DeviceEvent
+settle_calls at [] = Sync ∷ []
+settle_calls at (byte ∷ bytes) = Write at (byte ∷ bytes) ∷ Sync ∷ []
 
--- a group is appended at a closed gate: its frame is made durable after the gate, and then the gate is opened
-abbrev pub appending : ℕ → List ℕ → List DeviceEvent
-appending at body = settling (at + 1) (frame_of body) ++ settling at (open_gate ∷ [])
+-- the calls that append a group at a closed gate: they make the frame durable after the gate, and then open the gate
+abbrev pub append_calls : ℕ → List ℕ → List DeviceEvent
+append_calls at body = settle_calls (at + 1) (frame_of body) ++ settle_calls at (open_gate ∷ [])
 
--- bytes are read into memory of their own, and nothing where that was refused
+-- the read of bytes into new memory; no call if the allocation failed
 abbrev pub bytes_reads : {A : Type 0} → ℕ → ℕ → Result A ReadFault → List DeviceEvent
 bytes_reads place count (Ok bytes) = Read place count ∷ []
 bytes_reads place count (Err read.OutOfMemory) = []
 bytes_reads place count (Err read.Device) = Read place count ∷ []
 
--- no read of them failed
-abbrev pub are_told : {A : Type 0} → Result A ReadFault → Bool
-are_told (Ok bytes) = true
-are_told (Err read.OutOfMemory) = true
-are_told (Err read.Device) = false
+-- none of these reads failed
+abbrev pub reads_succeeded : {A : Type 0} → Result A ReadFault → Bool
+reads_succeeded (Ok bytes) = true
+reads_succeeded (Err read.OutOfMemory) = true
+reads_succeeded (Err read.Device) = false
 
--- the length after an open gate is read where a length and a gate have room before the end
+-- the read of the length after an open gate, if a length and a gate fit before the end
 abbrev pub length_reads : ℕ → ℕ → List DeviceEvent
 length_reads at end = if nat_le (at + 6) end then Read (at + 1) 4 ∷ [] else []
 
--- a group is read: its gate, the length after it where it is open, and then the body. A failed read was one of these
+-- the reads of a group: its gate, the length if the gate is open, and then the body. A failed read is one of these
 abbrev pub group_reads : {A : Type 0} → ℕ → ℕ → ℕ → Result (Option (Vec ℕ A)) GroupFault → List DeviceEvent
 group_reads at end n (Ok None) = Read at 1 ∷ []
 group_reads at end n (Ok (Some body)) = Read at 1 ∷ Read (at + 1) 4 ∷ Read (at + 5) (length body.items) ∷ []
@@ -41,9 +41,9 @@ group_reads at end n (Err Damaged) = Read at 1 ∷ length_reads at end
 group_reads at end n (Err OutOfMemory) = Read at 1 ∷ Read (at + 1) 4 ∷ []
 group_reads at end n (Err Device) = Read at 1 ∷ Read (at + 1) 4 ∷ Read (at + 5) n ∷ []
 
--- no read of it failed
-abbrev pub is_told : {A : Type 0} → Result A GroupFault → Bool
-is_told (Ok found) = true
-is_told (Err Damaged) = true
-is_told (Err OutOfMemory) = true
-is_told (Err Device) = false
+-- no read of the group failed
+abbrev pub group_reads_succeeded : {A : Type 0} → Result A GroupFault → Bool
+group_reads_succeeded (Ok found) = true
+group_reads_succeeded (Err Damaged) = true
+group_reads_succeeded (Err OutOfMemory) = true
+group_reads_succeeded (Err Device) = false

@@ -1,4 +1,4 @@
 pub mod Calls
 pub mod Group
-pub mod HelpersReading
-pub mod Reading
+pub mod HelpersGroupReads
+pub mod GroupReads

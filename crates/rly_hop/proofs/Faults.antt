@@ -4,7 +4,7 @@ use Rattle.std.specs.Prelude.{is_some}
 use Rattle.rly_core.specs.declared.refusal.Refusal.{Refusal}
 use Rattle.rly_core.specs.declared.refusal.Refusal.TheVariants.{Short, Long}
 use Rattle.rly_hop.specs.Rows.{first_row}
-use Rattle.rly_hop.specs.Reading.{end_faults, first_fault, header_faults, kind_of, length_faults, whole_length}
+use Rattle.rly_hop.specs.MessageReads.{end_faults, first_fault, header_faults, kind_of, length_faults, whole_length}
 
 -- a row that is met decides, whatever comes after these rows
 met-row : (b : Bool) (x rest all : Option Refusal) (fault : Refusal) → (Some fault ≡ rest → Some fault ≡ all) → Some fault ≡ (if b then x else rest) → Some fault ≡ (if b then x else all)
@@ -20,7 +20,7 @@ abbrev AreFaults : List (Bool × Option Refusal) → Type 0
 AreFaults [] = Unit {0}
 AreFaults (row ∷ rows) = (is_some row.1 ≡ true) × AreFaults rows
 
--- where none of these rows is met, those after them decide
+-- if none of these rows is met, those after them decide
 unmet-row : (b : Bool) (x rest all last : Option Refusal) → is_some x ≡ true → (None ≡ rest → all ≡ last) → None ≡ (if b then x else rest) → (if b then x else all) ≡ last
 unmet-row true None rest all last fault later e = absurd cc
 unmet-row true (Some x) rest all last fault later e = absurd cc
@@ -43,11 +43,11 @@ pub header-fault : (bytes : List ℕ) (fault : Refusal) → Some fault ≡ first
 unfolding first_fault
 header-fault bytes fault e = met (header_faults bytes) (length_faults bytes ++ end_faults bytes) fault e
 
--- a fault of the length, where the header has none
+-- a fault of the length, if the header has none
 pub length-fault : (bytes : List ℕ) (fault : Refusal) → None ≡ first_row (header_faults bytes) None → Some fault ≡ first_row (length_faults bytes) None → Some fault ≡ first_fault bytes
 length-fault bytes fault none e = met (length_faults bytes) (end_faults bytes) fault e ∙ sym (after-header bytes none)
 
--- what the number of bytes says, where nothing before it has a fault
+-- the fault of the number of bytes, if there is none before it
 pub end-fault : (bytes : List ℕ) (found : Option Refusal) (whole kind : ℕ) → None ≡ first_row (header_faults bytes) None → None ≡ first_row (length_faults bytes) None
     → kind_of bytes ≡ kind → whole ≡ whole_length kind bytes
     → found ≡ first_row ((nat_lt (length bytes) whole, Some Short) ∷ (nat_lt whole (length bytes), Some Long) ∷ []) None → found ≡ first_fault bytes

@@ -1,4 +1,4 @@
--- The fields of a datagram: their bytes at a place, and what tests of them say.
+-- The fields of a datagram: their bytes at an offset, and the facts that follow from the tests of them.
 use Rattle.std.proofs.Common.{◌≡◌, ℕ, zero, suc, ◌+◌, ◌<◌, ◌≤◌, Bool, true, false, not, ◌||◌, ◌==◌, nat_lt, slice_index, List, [], ◌∷◌, ◌++◌, ◌⊎◌, length, get_or, take, drop, Option, Some, None, Ok, refl, sym, ap, ◌∙◌, append_assoc, arith, inl, inr}
 use Rattle.std.proofs.lemmas.Bool.{cases_lt, eqb-true, ltb-false, not-false, or_cases, or_parts}
 use Rattle.std.proofs.lemmas.List.{take-append-drop, drop-drop, length-take, length-drop, get_or-drop, get_or-take, get_or_past}
@@ -7,7 +7,7 @@ use Rattle.byteorder.specs.Endian.{big_bytes, big_number}
 use Rattle.byteorder.specs.Numbers.{big_from-cons}
 use Rattle.rly_core.specs.declared.refusal.Refusal.{Refusal}
 use Rattle.rly_hop.specs.Rows.{first_row}
-use Rattle.rly_hop.specs.Reading.{field_at, found_unless}
+use Rattle.rly_hop.specs.MessageReads.{field_at, found_unless}
 
 -- each item is a byte
 abbrev pub IsBytes : List ℕ → Type 0
@@ -31,7 +31,7 @@ field width place bytes = take width (drop place bytes)
 item : (width k : ℕ) (bytes : List ℕ) → k < width → get_or (take width bytes) k 0 ≡ get_or bytes k 0
 item width k bytes lt = get_or-take width bytes k 0 lt
 
--- a number of so many bytes is spelled again as it was
+-- a number of this width is encoded again as it was
 abbrev pub IsWide : ℕ → Type 0
 IsWide width = (bytes : List ℕ) → IsBytes bytes → width ≤ length bytes → big_bytes width (big_number width bytes) ≡ take width bytes
 
@@ -50,7 +50,7 @@ IsBytes-zero : (bytes : List ℕ) → IsBytes bytes → IsBytes (0 ∷ bytes)
 IsBytes-zero bytes fits zero = omega arith
 IsBytes-zero bytes fits (suc i) = fits i
 
--- a number is spelled as one of a byte more is that begins with a byte 0
+-- a number is encoded as one of a byte more that begins with a byte 0
 wide_below : (width : ℕ) → IsWide (suc width) → IsWide width
 wide_below width wide bytes fits long =
     let moved = big_from-cons 0 width 0 bytes in
@@ -60,7 +60,7 @@ wide_below width wide bytes fits long =
 wide_5 : IsWide 5
 wide_5 = wide_below 5 (wide_below 6 (wide_below 7 wide_8))
 
--- a field's number, spelled again
+-- a field's number, encoded again
 field-again : (width place : ℕ) (bytes : List ℕ) → IsWide width → IsBytes bytes → place + width ≤ length bytes → big_bytes width (field_at width place bytes) ≡ field width place bytes
 field-again width place bytes wide fits long = wide (drop place bytes) (IsBytes-drop place bytes fits) (omega (arith, length-drop place bytes))
 
@@ -73,7 +73,7 @@ field_5 place bytes fits long = field-again 5 place bytes wide_5 fits long
 pub field_8 : (place : ℕ) (bytes : List ℕ) → IsBytes bytes → place + 8 ≤ length bytes → big_bytes 8 (field_at 8 place bytes) ≡ field 8 place bytes
 field_8 place bytes fits long = field-again 8 place bytes wide_8 fits long
 
--- a field and what is after it
+-- a field and the bytes after it
 pub field-append : (width place behind : ℕ) (bytes : List ℕ) → behind ≡ place + width → field width place bytes ++ drop behind bytes ≡ drop place bytes
 field-append width place behind bytes e = rw (e, ← drop-drop) (take-append-drop width (drop place bytes))
 
@@ -88,7 +88,7 @@ front (a ∷ b ∷ c ∷ d ∷ bytes) kind fits long magic version is =
     let second : b ≡ 0x4c = omega (arith, fits 0, fits 1) in
     rw (first, second, version, is) refl
 
--- parts of which each ends where the next begins
+-- consecutive parts
 pub joined_3 : (a b c d r r8 r6 r4 bytes : List ℕ) → d ++ r ≡ r8 → c ++ r8 ≡ r6 → b ++ r6 ≡ r4 → a ++ r4 ≡ bytes → ((a ++ b) ++ c) ++ d ++ r ≡ bytes
 joined_3 a b c d r r8 r6 r4 bytes e8 e6 e4 e0 = simp append_assoc (rw (e8, e6, e4) e0)
 
@@ -137,7 +137,7 @@ pub unless-ok : {A : Type 0} (fault : Option Refusal) (x y : A) → found_unless
 unless-ok None x y e = (refl, cc)
 unless-ok (Some fault) x y e = absurd cc
 
--- what the tests of a datagram's header say
+-- the facts that follow from the tests of a datagram's header
 pub record IsHeader (bytes : List ℕ) : Type 0 where
   pub length_is : 8 ≤ length bytes
   pub magic : field_at 2 0 bytes ≡ 0x524c

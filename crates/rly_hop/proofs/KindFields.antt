@@ -8,7 +8,7 @@ use Rattle.rly_hop.specs.declared.message.Message.{Message}
 use Rattle.rly_hop.specs.declared.message.Message.TheVariants.{Data, Refused}
 use Rattle.rly_hop.specs.declared.message.StationId.{StationId}
 use Rattle.rly_hop.specs.HelpersKinds.{message_kind_byte}
-use Rattle.rly_hop.specs.Reading.{field_at, fixed_length, message_at, station_at}
+use Rattle.rly_hop.specs.MessageReads.{field_at, fixed_length, message_at, station_at}
 
 -- a message of any kind has its number
 pub fixed-16 : (kind : Kind) → 16 ≤ fixed_length (message_kind_byte kind)
@@ -17,7 +17,7 @@ fixed-16 kinds.Custody = omega arith
 fixed-16 kinds.Refused = omega arith
 fixed-16 kinds.LimitedData = omega arith
 
--- all bytes from a place on
+-- all bytes from an offset on
 all-behind : (place : ℕ) (bytes : List ℕ) → take (length bytes - place) (drop place bytes) ≡ drop place bytes
 all-behind place bytes = take_all (length bytes - place) (drop place bytes) (omega (arith, length-drop place bytes))
 

@@ -1,4 +1,4 @@
--- What is read is spelled so, and what is spelled so is read.
+-- Decoding and encoding are inverse.
 use Rattle.std.proofs.Common.{◌≡◌, ℕ, zero, suc, ◌+◌, ◌^◌, ◌<◌, ◌≤◌, false, not, ◌&&◌, ◌||◌, ◌==◌, nat_lt, slice_index, List, [], ◌∷◌, ◌++◌, length, drop, Option, None, Result, Ok, Err, refl, sym, ap, subst, ◌∙◌, arith, inl, inr}
 use Rattle.std.specs.Prelude.{IfOk, IsOkAnd, MatchResult}
 use Rattle.std.specs.Result.{result_err}
@@ -14,10 +14,10 @@ use Rattle.rly_hop.specs.declared.message.Message.{Message}
 use Rattle.rly_hop.specs.declared.message.Message.TheVariants.{Data, Custody, Refused}
 use Rattle.rly_hop.specs.Payloads.{message_bytes}
 use Rattle.rly_hop.specs.Spelling.{IsMessage, IsStation, header, spelling}
-use Rattle.rly_hop.specs.Reading.{first_fault, fixed_length, found_unless, kind_of, message_at, field_at, payload_length, reading, station_at, whole_length}
+use Rattle.rly_hop.specs.MessageReads.{first_fault, fixed_length, found_unless, kind_of, message_at, field_at, payload_length, message_or_fault, station_at, whole_length}
 use Rattle.rly_hop.proofs.Fields.{IsBytes, IsBytes-drop, IsHeader, IsHeader-from, NoFault, field-append, field_2, field_5, field_8, front, joined_3, known_kind, no_fault, ok-is, positive, quiet, unless-is, unless-ok}
 
--- a station's number, where it isn't 0
+-- a station's number, if it isn't 0
 station-fits : (place : ℕ) (bytes : List ℕ) → IsBytes bytes → 1 ≤ field_at 2 place bytes → IsStation (station_at place bytes)
 station-fits place bytes fits low =
     let rest = IsBytes-drop place bytes fits in
@@ -29,7 +29,7 @@ number-fits place bytes fits = big_from-lt 0 8 (drop place bytes) (IsBytes-drop 
 limit-fits : (place : ℕ) (bytes : List ℕ) → IsBytes bytes → field_at 5 place bytes < 2 ^ 40
 limit-fits place bytes fits = big_from-lt 0 5 (drop place bytes) (IsBytes-drop place bytes fits)
 
--- the bytes of a payload's length, and of the payload, where the bytes end with it
+-- the bytes of a payload's length, and of the payload, if the datagram ends with it
 payload-spelled : (place behind : ℕ) (bytes : List ℕ) → IsBytes bytes → behind ≡ place + 2 → length bytes ≡ behind + field_at 2 place bytes
     → drop place bytes ≡ big_bytes 2 (length (drop behind bytes)) ++ drop behind bytes
 payload-spelled place behind bytes fits after long =
@@ -54,7 +54,7 @@ one_item [] e = absurd (omega arith)
 one_item (x ∷ []) e = refl
 one_item (x ∷ y ∷ xs) e = absurd (omega arith)
 
--- the message at the places of a kind, where the bytes are as many as it has
+-- the message at the offsets of a kind, if the datagram has its length
 abbrev Spelled : ℕ → List ℕ → Type 0
 Spelled kind bytes = IsMessage (message_at kind bytes) × (bytes ≡ spelling (message_at kind bytes))
 
@@ -65,7 +65,7 @@ data-spelled bytes fits head is low long = (
   header-spelled bytes (big_bytes 2 (length (drop 18 bytes)) ++ drop 18 bytes) 1 fits head is (omega arith) (payload-spelled 16 18 bytes fits refl long),
 )
 
--- the spelling of a Data that has a limit
+-- the encoding of a Data that has a limit
 pub spelling-limited : (from to : StationId) (number limit : ℕ) (payload : List ℕ) → 1 ≤ limit
     → spelling (Data from to number limit payload) ≡ header 4 from to ++ big_bytes 8 number ++ big_bytes 5 limit ++ big_bytes 2 (length payload) ++ payload
 unfolding spelling
@@ -115,8 +115,8 @@ quiet-from bytes none =
     (nat_lt (length bytes) (whole_length (kind_of bytes) bytes)) (nat_lt (whole_length (kind_of bytes) bytes) (length bytes))
     Short Magic Version Kind Station Short Kind Long Short Long none
 
-reading-is : (bytes : List ℕ) (m : Message (List ℕ)) → IsQuiet bytes → message_at (kind_of bytes) bytes ≡ m → reading bytes ≡ Ok m
-unfolding reading first_fault
+reading-is : (bytes : List ℕ) (m : Message (List ℕ)) → IsQuiet bytes → message_at (kind_of bytes) bytes ≡ m → message_or_fault bytes ≡ Ok m
+unfolding message_or_fault first_fault
 reading-is bytes m none is =
     unless-is (first_fault bytes) (message_at (kind_of bytes) bytes) m (quiet (nat_lt (length bytes) 8) (not (field_at 2 0 bytes == 0x524c)) (not (slice_index bytes 2 == 1))
     (not ((kind_of bytes == 1) || (kind_of bytes == 2) || (kind_of bytes == 3) || (kind_of bytes == 4))) ((field_at 2 4 bytes == 0) || (field_at 2 6 bytes == 0))
@@ -124,8 +124,8 @@ reading-is bytes m none is =
     (nat_lt (length bytes) (whole_length (kind_of bytes) bytes)) (nat_lt (whole_length (kind_of bytes) bytes) (length bytes))
     Short Magic Version Kind Station Short Kind Long Short Long none) is
 
-pub reading-spelled : (bytes : List ℕ) (m : Message (List ℕ)) → IsBytes bytes → reading bytes ≡ Ok m → IsMessage m × (bytes ≡ spelling m)
-unfolding reading
+pub reading-spelled : (bytes : List ℕ) (m : Message (List ℕ)) → IsBytes bytes → message_or_fault bytes ≡ Ok m → IsMessage m × (bytes ≡ spelling m)
+unfolding message_or_fault
 reading-spelled bytes m fits e =
     let parts = unless-ok (first_fault bytes) (message_at (kind_of bytes) bytes) m e in
     let none = quiet-from bytes parts.0 in
@@ -154,7 +154,7 @@ reading-spelled bytes m fits e =
       ]
     ])
 
--- a number that was spelled, read again
+-- a number that was encoded, decoded again
 two_again : (n : ℕ) → n ≤ 65535 → big_number 2 (big_bytes 2 n ++ []) ≡ n
 two_again n fits = big_number-reads_back 2 n [] (omega arith)
 
@@ -168,7 +168,7 @@ eight_again n fits = big_number-reads_back 8 n [] fits
 stations : (from to a b : ℕ) → a ≡ from → b ≡ to → 1 ≤ from → 1 ≤ to → ((a == 0) || (b == 0)) ≡ false
 stations from to a b p q low high = or_from _ _ (ne_eqb a 0 (λ e. omega arith)) (ne_eqb b 0 (λ e. omega arith))
 
--- a number that was spelled above 0 isn't 0
+-- a number that was encoded above 0 isn't 0
 above-zero : (a n : ℕ) → a ≡ suc n → (a == 0) ≡ false
 above-zero a n e = ne_eqb a 0 (λ z. omega arith)
 
@@ -184,7 +184,7 @@ refused-again : (from to : StationId) (a b c number told : ℕ) → a ≡ from.0
     → (let found : Message (List ℕ) = Refused (record { 0 = a }) (record { 0 = b }) c told in found) ≡ Refused from to number told
 refused-again from to a b c number told p q r = rw (p, q, r) refl
 
-pub reading-spelling : (m : Message (List ℕ)) → IsMessage m → reading (spelling m) ≡ Ok m
+pub reading-spelling : (m : Message (List ℕ)) → IsMessage m → message_or_fault (spelling m) ≡ Ok m
 unfolding spelling
 reading-spelling (Data from to number zero payload) h =
     let a = two_again from.0 h.0.1 in
@@ -254,47 +254,47 @@ reading-spelling (Refused from to number told) h =
       long = refl;
     }) (refused-again from to _ _ _ number told a b c)
 
--- a message has one spelling
+-- a message has one encoding
 pub spelling-once : (a b : Message (List ℕ)) → IsMessage a → IsMessage b → spelling a ≡ spelling b → a ≡ b
-spelling-once a b fits_a fits_b same = ok-is a b (sym (reading-spelling a fits_a) ∙ ap reading same ∙ reading-spelling b fits_b)
+spelling-once a b fits_a fits_b same = ok-is a b (sym (reading-spelling a fits_a) ∙ ap message_or_fault same ∙ reading-spelling b fits_b)
 
--- a result that has the first fault, or else the message at its place, is what the bytes read as
+-- a result with the first fault, or else the message at its offset, is the decoding of the bytes
 pub reading-of : (bytes : List ℕ) (found : Result (Message (Bor (List ℕ))) Refusal) → result_err found ≡ first_fault bytes
     → IfOk found (λ m. message_bytes m ≡ message_at (kind_of bytes) bytes)
-    → MatchResult found (λ m. reading bytes ≡ Ok (message_bytes m)) (λ e. reading bytes ≡ Err e)
-unfolding reading
+    → MatchResult found (λ m. message_or_fault bytes ≡ Ok (message_bytes m)) (λ e. message_or_fault bytes ≡ Err e)
+unfolding message_or_fault
 reading-of bytes (Ok m) none is = unless-is (first_fault bytes) (message_at (kind_of bytes) bytes) (message_bytes m) (sym none) (sym is)
 reading-of bytes (Err fault) first is =
     ap (λ (x : Option Refusal). found_unless x (message_at (kind_of bytes) bytes)) (sym first)
 
--- the two facts of what a reader found
+-- the two facts of a decoder's result
 pub found-spelled : (bytes : List ℕ) (found : Result (Message (Bor (List ℕ))) Refusal) → IsBytes bytes
-    → MatchResult found (λ m. reading bytes ≡ Ok (message_bytes m)) (λ e. reading bytes ≡ Err e)
+    → MatchResult found (λ m. message_or_fault bytes ≡ Ok (message_bytes m)) (λ e. message_or_fault bytes ≡ Err e)
     → IfOk found (λ m. IsMessage (message_bytes m) × (bytes ≡ spelling (message_bytes m)))
 found-spelled bytes (Ok m) fits exact = reading-spelled bytes (message_bytes m) fits exact
 found-spelled bytes (Err e) fits exact = tt
 
 pub spelled-found : (bytes : List ℕ) (found : Result (Message (Bor (List ℕ))) Refusal) (m : Message (List ℕ)) → IsMessage m → bytes ≡ spelling m
-    → MatchResult found (λ m. reading bytes ≡ Ok (message_bytes m)) (λ e. reading bytes ≡ Err e)
+    → MatchResult found (λ m. message_or_fault bytes ≡ Ok (message_bytes m)) (λ e. message_or_fault bytes ≡ Err e)
     → IsOkAnd found (λ x. message_bytes x ≡ m)
-spelled-found bytes (Ok x) m fits same exact = ok-is (message_bytes x) m (sym exact ∙ ap reading same ∙ reading-spelling m fits)
+spelled-found bytes (Ok x) m fits same exact = ok-is (message_bytes x) m (sym exact ∙ ap message_or_fault same ∙ reading-spelling m fits)
 spelled-found bytes (Err e) m fits same exact =
-    let read : reading bytes ≡ Ok m = ap reading same ∙ reading-spelling m fits in
-    let fault : reading bytes ≡ Err e = exact in
+    let read : message_or_fault bytes ≡ Ok m = ap message_or_fault same ∙ reading-spelling m fits in
+    let fault : message_or_fault bytes ≡ Err e = exact in
     absurd cc
 
--- without a fault, and only so, the bytes are a message's
+-- the bytes are a message's iff they have no fault
 pub faultless-spelled : (bytes : List ℕ) → IsBytes bytes → first_fault bytes ≡ None → (m : Message (List ℕ)) × IsMessage m × (bytes ≡ spelling m)
-unfolding reading
+unfolding message_or_fault
 faultless-spelled bytes fits none =
     let m : Message (List ℕ) = message_at (kind_of bytes) bytes in
     let both = reading-spelled bytes m fits (unless-is (first_fault bytes) m m none refl) in
     (m, both.0, both.1)
 
 pub spelled-faultless : (bytes : List ℕ) (m : Message (List ℕ)) → IsMessage m → bytes ≡ spelling m → first_fault bytes ≡ None
-unfolding reading
+unfolding message_or_fault
 spelled-faultless bytes m fits same =
-    (unless-ok (first_fault bytes) (message_at (kind_of bytes) bytes) m (ap reading same ∙ reading-spelling m fits)).0
+    (unless-ok (first_fault bytes) (message_at (kind_of bytes) bytes) m (ap message_or_fault same ∙ reading-spelling m fits)).0
 
 -- ---- lengths
 

@@ -3,7 +3,7 @@ use Rattle.std.proofs.Common.{◌≡◌, ℕ, ◌+◌, ◌-◌, ◌≤◌, List,
 use Rattle.std.proofs.lemmas.List.{append-nil, drop-drop, drop_all, drop_at, length-drop, length-take, take_all, take_at}
 use borrow.Rule.Slice.PartMut.{put_mid}
 
--- all after a place is written
+-- all after an offset is written
 put_mid-end : (xs new : List ℕ) (at count : ℕ) → length xs ≤ at + count → put_mid at count xs new ≡ take at xs ++ new
 put_mid-end xs new at count all =
     let none = drop_all count (drop at xs) (omega (arith, length-drop at xs)) in
@@ -13,7 +13,7 @@ put_mid-end xs new at count all =
 put_mid-behind : (front rest new : List ℕ) (at count : ℕ) → length front ≡ at → put_mid at count (front ++ rest) new ≡ front ++ (new ++ drop count rest)
 put_mid-behind front rest new at count long = rw (take_at front rest at long, drop_at front rest at long) refl
 
--- a part is written at the front of all after a place
+-- a part is written at the front of all after an offset
 pub put_mid-front : (xs part rest : List ℕ) (at width : ℕ) → at ≤ length xs → rest ≡ part ++ drop width (take (length xs - at) (drop at xs))
     → put_mid at (length xs - at) xs rest ≡ (take at xs ++ part) ++ drop (at + width) xs
 put_mid-front xs part rest at width long is =

@@ -1,4 +1,4 @@
--- What a receiving core keeps over its events, and what its actions follow from.
+-- Invariants of a receiving core over its events, and the causes of its actions.
 use Rattle.std.proofs.Common.{◌≡◌, ℕ, zero, suc, ◌+◌, ◌-◌, Bool, true, false, ◌&&◌, ◌==◌, if◌then◌else◌, List, [], ◌∷◌, length, Option, Some, None, is_none, refl, sym, ap, subst, ◌∙◌, ◌⊎◌, inl, inr, arith}
 use Rattle.std.specs.List.{AllByRecursion}
 use Rattle.std.proofs.lemmas.Bool.{and_parts, and_right, eqb-false, eqb-true}
@@ -15,7 +15,7 @@ use Rattle.rly_hop.specs.declared.receiving.event.InEvent.TheVariants.{Heard, An
 use Rattle.rly_hop.specs.declared.receiving.event.InAction.{InAction}
 use Rattle.rly_hop.specs.declared.receiving.event.InAction.TheVariants.{Take, Send}
 use Rattle.rly_hop.specs.Receiver.{Receiver}
-use Rattle.rly_hop.specs.Receiving.{ReceivingResult, after_answer, is_told, receiving_step, receiver, refusal_message, take_reply}
+use Rattle.rly_hop.specs.Receiving.{ReceivingResult, after_answer, is_reported_refusal, receiving_step, receiver, refusal_message, take_reply}
 use Rattle.rly_hop.specs.ReceivingRuns.{IsCustodyDue, IsHeard, in_actions, last_take, receiver_after}
 
 -- stations with one number are one
@@ -32,7 +32,7 @@ some n = Some n
 abbrev asked : TakeAnswer → InEvent (List ℕ)
 asked any = Answered any
 
--- what is named where a Data was heard
+-- the action on a Data
 heard : (b : Bool) (r : Receiver) (number limit : ℕ) (payload : List ℕ) (action : InAction (List ℕ))
     → (let x : ReceivingResult = if b then (record r { pending = Some number }, Some (Take number limit payload)) else (r, None) in x).1 ≡ Some action
     → (b ≡ true) × (Take number limit payload ≡ action)
@@ -44,7 +44,7 @@ above_zero : (expected n : ℕ) → (expected ≡ 0 → ⊥) → expected - 1 �
 above_zero zero n above e = absurd (above refl)
 above_zero (suc k) n above e = omega arith
 
--- ---- what stays
+-- ---- invariants
 
 pub received-stations : (r : Receiver) (event : InEvent (List ℕ)) → ((receiving_step r event).0.own ≡ r.own) × ((receiving_step r event).0.peer ≡ r.peer)
 received-stations r (Heard (message.Data from to number limit payload)) =
@@ -65,9 +65,9 @@ after-stations r (event ∷ events) =
     let later = after-stations (receiving_step r event).0 events in
     (later.0 ∙ now.0, later.1 ∙ now.1)
 
--- ---- the number that waits is that of the last Take
+-- ---- the pending number is that of the last Take
 
--- what waits was taken last
+-- the pending number is that of the last Take
 abbrev pub IsTaken : Receiver → Option ℕ → Type 0
 IsTaken r taken = (n : ℕ) → r.pending ≡ Some n → taken ≡ Some n
 
@@ -100,27 +100,27 @@ IsTaken-first own peer n e = e
 
 -- ---- custody and refusals follow an answer
 
--- what is named where a test isn't met
+-- the action if a test isn't met
 otherwise : {A : Type 0} (b : Bool) (x y : A) → (if b then None else Some x) ≡ Some y → (b ≡ false) × (x ≡ y)
 otherwise true x y e = absurd cc
 otherwise false x y e = (refl, cc)
 
--- what is named where a test is met
+-- the action if a test is met
 told-where : (b : Bool) (x y : InAction (List ℕ)) → (if b then Some x else None) ≡ Some y → x ≡ y
 told-where true x y e = cc
 told-where false x y e = absurd cc
 
--- a refusal is by a gap, or else the peer station is told of its number, if of anything
+-- a refusal is by a gap, or else its number is sent to the peer station, if anything is
 gap-or-other : (r : Receiver) (k : ℕ) (refusal : Refusal)
-    → ((expected : ℕ) × (refusal ≡ Gap expected)) ⊎ (take_reply r k (answer.Refused refusal) ≡ (if is_told refusal then refusal_message r k refusal else None))
+    → ((expected : ℕ) × (refusal ≡ Gap expected)) ⊎ (take_reply r k (answer.Refused refusal) ≡ (if is_reported_refusal refusal then refusal_message r k refusal else None))
 gap-or-other r k (Gap expected) = inl (expected, refl)
 gap-or-other r k refusal = inr refl
 
--- what a refusal that is no gap names is the message that tells of it
+-- the action of a refusal that is no gap is the message with it
 refusal-named : (r : Receiver) (k : ℕ) (refusal : Refusal) (action : InAction (List ℕ))
-    → take_reply r k (answer.Refused refusal) ≡ (if is_told refusal then refusal_message r k refusal else None)
+    → take_reply r k (answer.Refused refusal) ≡ (if is_reported_refusal refusal then refusal_message r k refusal else None)
     → take_reply r k (answer.Refused refusal) ≡ Some action → named (Send (message.Refused r.own r.peer k (number_of refusal))) ≡ named action
-refusal-named r k refusal action is e = told-where (is_told refusal) (Send (message.Refused r.own r.peer k (number_of refusal))) action (sym is ∙ e)
+refusal-named r k refusal action is e = told-where (is_reported_refusal refusal) (Send (message.Refused r.own r.peer k (number_of refusal))) action (sym is ∙ e)
 
 gap-custody : (r : Receiver) (k expected : ℕ) (from to : StationId) (n : ℕ) → take_reply r k (answer.Refused (Gap expected)) ≡ Some (Send (message.Custody from to n))
     → (from ≡ r.own) × (to ≡ r.peer) × IsCustodyDue (Some k) (Answered (answer.Refused (Gap expected))) n
@@ -166,7 +166,7 @@ received-custody r taken (Heard (message.Refused a b number refusal)) from to n 
 received-custody r taken (Answered any) from to n h e = answered-custody r r.pending taken any from to n h e
 received-custody r taken Lost from to n h e = absurd cc
 
--- the refusal that a message tells of
+-- the refusal in a message
 abbrev pub IsRefusal : TakeAnswer → ℕ → Type 0
 IsRefusal any code = (refusal : Refusal) × (any ≡ answer.Refused refusal) × (code ≡ number_of refusal)
 
@@ -213,7 +213,7 @@ received-refused r taken (Answered any) from to n code h e =
     (t.0, t.1, t.2, (t.3.0, ap asked t.3.1, t.3.2))
 received-refused r taken Lost from to n code h e = absurd cc
 
--- ---- a Take follows the Data that was heard, and nothing is named after it
+-- ---- a Take follows the received Data, and no action comes after it
 
 gap-take : (r : Receiver) (k expected n limit : ℕ) (payload : List ℕ) → take_reply r k (answer.Refused (Gap expected)) ≡ Some (Take n limit payload) → ⊥
 gap-take r k expected n limit payload e =
@@ -259,7 +259,7 @@ pub length-in_actions : (r : Receiver) (events : List (InEvent (List ℕ))) → 
 length-in_actions r [] = refl
 length-in_actions r (event ∷ events) = let more = length-in_actions (receiving_step r event).0 events in omega (arith, more)
 
--- a message is not taken while a number waits
+-- a message is not taken while a Take is pending
 pub waiting : (r : Receiver) (n : ℕ) (m : Message (List ℕ)) → r.pending ≡ Some n → receiving_step r (Heard m) ≡ (r, None)
 waiting r n (message.Data from to number limit payload) e =
     let some : is_none r.pending ≡ false = ap is_none e in

@@ -1,4 +1,4 @@
--- What a sending core keeps over its events, and what its actions follow from.
+-- Invariants of a sending core over its events, and the causes of its actions.
 use Rattle.std.proofs.Common.{◌≡◌, ℕ, ◌+◌, ◌-◌, ◌^◌, ◌≤◌, ◌<◌, Bool, true, false, not, ◌&&◌, ◌==◌, nat_lt, nat_le, max, if◌then◌else◌, List, [], ◌∷◌, ◌++◌, ◌⊎◌, inl, inr, Option, Some, None, is_some, refl, sym, ap, subst, ◌∙◌, arith}
 use Rattle.std.specs.Option.{option_map, option_map_or}
 use Rattle.std.proofs.lemmas.Bool.{and_parts, cases_lt, eqb-true, leb-true, ltb-true}
@@ -36,7 +36,7 @@ fetched s number limit payload = (record s { cursor = number + 1 }, Some (Send (
 abbrev can_acknowledge : Sender → StationId → StationId → ℕ → Bool
 can_acknowledge s from to last = (from.0 == s.hop.0) && (to.0 == s.own.0) && s.ready && nat_le s.first last && nat_lt last s.next
 
--- what the tests say
+-- the facts of the tests
 record CanSend (s : Sender) (number : ℕ) : Type 0 where
   ready : s.ready ≡ true
   at : number ≡ s.cursor
@@ -230,7 +230,7 @@ flight-given s (event ∷ events) n h flight =
 pub flight-first : (own hop : StationId) (window n : ℕ) → IsInFlight (sender own hop window) n → ⊥
 flight-first own hop window n flight = let never : false ≡ true = flight.ready in cc
 
--- ---- what is acknowledged was heard in the flight
+-- ---- an acknowledged number was received in the flight
 
 -- it was acknowledged before, or this event is its acknowledgement in the flight
 abbrev pub Acked : Sender → OutEvent (List ℕ) → ℕ → Sender → Type 0
@@ -290,7 +290,7 @@ acked-heard s (event ∷ events) n e =
           inr (record { earlier = event ∷ found.earlier; later = found.later; parts = ap (λ (x : List (OutEvent (List ℕ))). event ∷ x) parts; in_flight = found.in_flight })
     ]
 
--- ---- what a turn names
+-- ---- the actions of a turn
 
 -- the rows of a turn, over plain tests
 abbrev rows : Bool → Option ℕ → Bool → Bool → Bool → ℕ → Option (OutAction (List ℕ))
@@ -323,7 +323,7 @@ rows-send true None true true room cursor m e = cc
 rows-send true None true false true cursor m e = cc
 rows-send true None true false false cursor m e = cc
 
--- what is sent where a payload was fetched
+-- the message sent on a fetched payload
 sending : (b : Bool) (s : Sender) (number limit : ℕ) (payload : List ℕ) (action : OutAction (List ℕ))
     → (let x : SendingResult = if b then fetched s number limit payload else (s, None) in x).1 ≡ Some action
     → (b ≡ true) × (Send (message.Data s.own s.hop number limit payload) ≡ action)

@@ -2,7 +2,8 @@ pub mod Rows
 pub mod Payloads
 pub mod HelpersKinds
 pub mod Spelling
-pub mod Reading
+pub mod MessageReads
+pub mod FixedBytes
 pub mod Receiver
 pub mod Receiving
 pub mod Sender

@@ -1,4 +1,4 @@
--- Messages, events and actions with their payload's bytes in the place of what the code holds of it.
+-- Messages, events and actions over their payload's bytes, whatever type holds these in the code.
 use Rattle.std.specs.Prelude.{ℕ, List}
 use Rattle.std.specs.Borrow.{Bor}
 use Rattle.rly_hop.specs.declared.message.Message.{Message}
@@ -12,7 +12,7 @@ use Rattle.rly_hop.specs.declared.sending.event.OutEvent.TheVariants as out_even
 use Rattle.rly_hop.specs.declared.sending.event.OutAction.{OutAction}
 use Rattle.rly_hop.specs.declared.sending.event.OutAction.TheVariants as out_action
 
--- the message with another form of its payload
+-- the message with its payload mapped
 abbrev pub message_map : {P Q : Type 0} → (P → Q) → Message P → Message Q
 message_map f (message.Data from to number limit payload) = message.Data from to number limit (f payload)
 message_map f (message.Custody from to last) = message.Custody from to last

@@ -10,12 +10,12 @@ use Rattle.rly_hop.specs.declared.receiving.event.InAction.TheVariants.{Take, Se
 use Rattle.rly_hop.specs.Receiver.{Receiver}
 use Rattle.rly_hop.specs.Receiving.{receiving_step, receiver}
 
--- the state after these events, one after the other
+-- the state after these events, in order
 abbrev pub receiver_after : Receiver → List (InEvent (List ℕ)) → Receiver
 receiver_after r [] = r
 receiver_after r (event ∷ events) = receiver_after (receiving_step r event).0 events
 
--- what was named on each of these events: at most one action
+-- the action requested on each of these events: at most one each
 abbrev pub in_actions : Receiver → List (InEvent (List ℕ)) → List (Option (InAction (List ℕ)))
 in_actions r [] = []
 in_actions r (event ∷ events) = (receiving_step r event).1 ∷ in_actions (receiving_step r event).0 events
@@ -33,8 +33,8 @@ IsHeard (Heard message) = Unit {0}
 IsHeard (Answered any) = ⊥
 IsHeard Lost = ⊥
 
--- The event is the answer on which custody of all numbers up to n is due: the last Take, whose number is n, is answered
--- Taken; or a Take is answered Already n, or is refused by the gap right after n.
+-- The event is an answer that makes custody of all numbers up to n due: the last Take, whose number is n, is
+-- answered Taken; or a Take is answered Already n, or is refused by the gap right after n.
 abbrev pub IsCustodyDue : Option ℕ → InEvent (List ℕ) → ℕ → Type 0
 IsCustodyDue taken (Answered answer.Taken) n = taken ≡ Some n
 IsCustodyDue taken (Answered (answer.Already last)) n = n ≡ last
@@ -44,7 +44,7 @@ IsCustodyDue taken (Answered answer.Other) n = ⊥
 IsCustodyDue taken (Heard message) n = ⊥
 IsCustodyDue taken Lost n = ⊥
 
--- what a core of these stations names on an event that comes after others
+-- the action that a core of these stations requests on an event after others
 abbrev pub in_action_after : StationId → StationId → List (InEvent (List ℕ)) → InEvent (List ℕ)
     → Option (InAction (List ℕ))
 in_action_after own peer before event = (receiving_step (receiver_after (receiver own peer) before) event).1

@@ -3,9 +3,9 @@ use Rattle.std.specs.Prelude.{ℕ, Bool, Option, ◌≤◌, ◌<◌}
 use Rattle.std.specs.Option.{ForSome}
 use Rattle.rly_hop.specs.declared.message.StationId.{StationId}
 
--- The own station, the hop's station, and the most datagrams in flight; whether the window is known; the numbers in
--- flight that are known, from first to below next; the next of them to be sent; and the greatest of them that the hop's
--- station has acknowledged since the last release.
+-- The own station, the hop's station, and the maximum number of datagrams in flight; whether the window is known;
+-- the known numbers in flight, from first to below next; the next of them to send; and the greatest of them that
+-- the hop's station has acknowledged since the last release.
 pub record Sender : Type 0 where
   pub own : StationId
   pub hop : StationId
@@ -16,7 +16,7 @@ pub record Sender : Type 0 where
   pub cursor : ℕ
   pub acked : Option ℕ
 
--- the cursor stands in the flight or right after it, and what is acknowledged is in the flight
+-- the cursor is in the flight or right after it, and the acknowledged number is in the flight
 pub record IsInOrder (s : Sender) : Type 0 where
   pub begun : s.first ≤ s.cursor
   pub ended : s.cursor ≤ s.next

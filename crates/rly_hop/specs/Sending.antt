@@ -1,4 +1,4 @@
--- The sending end of custody: what each event leaves, row by row (docs/PROTOCOL.md, "The sending core").
+-- The sending end of custody: the transition on each event, row by row (docs/PROTOCOL.md, "The sending core").
 use Rattle.std.specs.Prelude.{ℕ, ◌+◌, ◌-◌, ◌^◌, Bool, true, false, ◌&&◌, not, ◌==◌, nat_lt, nat_le, if◌then◌else◌}
 use Rattle.std.specs.Prelude.{max, Option, Some, None, is_some, List, [], ◌∷◌}
 use Rattle.std.specs.Option.{option_map, option_map_or}
@@ -15,13 +15,13 @@ use Rattle.rly_hop.specs.declared.sending.event.OutAction.TheVariants.{AskWindow
 use Rattle.rly_hop.specs.Rows.{first_row}
 use Rattle.rly_hop.specs.Sender.{Sender}
 
--- what one event leaves: the state, and the action that is named, if one is
+-- the result of an event: the state, and the requested action, if any
 abbrev pub SendingResult : Type 0
 SendingResult = Sender × Option (OutAction (List ℕ))
 
--- what a turn names, row by row: the first row that fits decides
-abbrev pub turn : Sender → Bool → Option (OutAction (List ℕ))
-turn s is_open = first_row (
+-- the call that a turn requests, row by row: the first row that matches decides
+abbrev pub turn_action : Sender → Bool → Option (OutAction (List ℕ))
+turn_action s is_open = first_row (
     (not s.ready, Some AskWindow)
     ∷ (is_some s.acked, option_map Release s.acked)
     ∷ (not is_open, None)
@@ -40,13 +40,13 @@ after_custody s from to last =
     if (from.0 == s.hop.0) && (to.0 == s.own.0) && s.ready && nat_le s.first last && nat_lt last s.next
     then record s { acked = Some (option_map_or (λ a. max a last) s.acked last) } else s
 
--- the answers after which the window is asked for anew
+-- the refusals after which the core asks for the window again
 abbrev pub is_unsure : Refusal → Bool
 is_unsure refusal = list_any (λ unsure. number_of refusal == unsure) (9 ∷ 10 ∷ 11 ∷ 12 ∷ 31 ∷ [])
 
--- each event, row by row: the first row that fits decides
+-- each event, row by row: the first row that matches decides
 abbrev pub sending_step : Sender → OutEvent (List ℕ) → SendingResult
-sending_step s (Turn is_open) = (s, turn s is_open)
+sending_step s (Turn is_open) = (s, turn_action s is_open)
 sending_step s (WindowIs first next) = (
   if nat_le first next
       then record s { ready = true; first = first; next = next; cursor = first; acked = None } else s,
@@ -67,7 +67,7 @@ sending_step s (Refused refusal) = (if is_unsure refusal then record s { ready =
 sending_step s Nothing = (s, None)
 sending_step s Other = (s, None)
 
--- the core at first
+-- the initial core
 abbrev pub sender : StationId → StationId → ℕ → Sender
 sender own hop window = record {
   own = own;

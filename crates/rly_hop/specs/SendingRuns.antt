@@ -9,12 +9,12 @@ use Rattle.rly_hop.specs.declared.sending.event.OutAction.{OutAction}
 use Rattle.rly_hop.specs.Sender.{Sender}
 use Rattle.rly_hop.specs.Sending.{sender, sending_step}
 
--- the state after these events, one after the other
+-- the state after these events, in order
 abbrev pub sender_after : Sender → List (OutEvent (List ℕ)) → Sender
 sender_after s [] = s
 sender_after s (event ∷ events) = sender_after (sending_step s event).0 events
 
--- the window is known, and this number is in the flight that it shows
+-- the window is known, and this number is in the flight
 pub record IsInFlight (s : Sender) (n : ℕ) : Type 0 where
   pub ready : s.ready ≡ true
   pub begun : s.first ≤ n
@@ -46,7 +46,7 @@ abbrev pub IsGiven : List (OutEvent (List ℕ)) → ℕ → Type 0
 IsGiven [] n = ⊥
 IsGiven (event ∷ events) n = IsGivenBy event n ⊎ IsGiven events n
 
--- what a core of these stations names on an event that comes after others
+-- the action that a core of these stations requests on an event after others
 abbrev pub out_action_after : StationId → StationId → ℕ → List (OutEvent (List ℕ)) → OutEvent (List ℕ)
     → Option (OutAction (List ℕ))
 out_action_after own hop window before event = (sending_step (sender_after (sender own hop window) before) event).1

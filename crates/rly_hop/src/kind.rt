@@ -1,6 +1,6 @@
 ghost use Rattle.std.specs.Prelude.{◌≡◌, ◌==◌, ◌||◌, false, IfNone, IfSome};
 ghost use Rattle.rly_hop.specs.HelpersKinds.{message_kind_byte};
-ghost use Rattle.rly_hop.specs.Reading.{fixed_length};
+ghost use Rattle.rly_hop.specs.MessageReads.{fixed_length};
 
 /// The kinds of message.
 #[derive(Clone, Copy, PartialEq, Eq)]
@@ -12,7 +12,7 @@ pub(crate) enum Kind {
 }
 
 impl Kind {
-    /// The kind that the byte says, if it says one.
+    /// The kind of a byte: `None` for an unknown one.
     pub(crate) fn from_byte(byte: u8) -> Option<Kind>
         ensures known { IfSome result (λ kind. byte ≡ message_kind_byte kind) }
         ensures unknown { IfNone result (((byte == 1) || (byte == 2) || (byte == 3) || (byte == 4)) ≡ false) }
@@ -26,7 +26,7 @@ impl Kind {
         }
     }
 
-    /// The byte that says it.
+    /// The byte of the kind.
     pub(crate) fn byte(self) -> u8
         ensures { result ≡ message_kind_byte self }
     {

@@ -1,36 +1,35 @@
-//! What two neighbouring stations say to each other (`docs/PROTOCOL.md`, "Messages").
+//! The messages between two neighbouring stations (`docs/PROTOCOL.md`, "Messages").
 
 ghost use Rattle.std.specs.Prelude.{◌≡◌};
 ghost use Rattle.rly_hop.specs.Spelling.{longest_message};
 
 use rly_core::limits::MAX_PAYLOAD;
 
-/// The number of a station, 1 to 65,535. A `StationId` of 0 names no station: no message that is from or to it is
-/// written or read.
+/// The number of a station, 1 to 65,535. 0 names no station: no message from it or to it is written or read.
 #[derive(Clone, Copy, PartialEq, Eq)]
 pub struct StationId(pub u16);
 
-/// One message, which is one datagram. `P` is what is held of a payload: the bytes borrowed from the datagram where a
-/// message is read, and any other form where one is kept.
+/// One message, which is one datagram. `P` is the type of the payload: bytes borrowed from the datagram when a
+/// message is read, and any other type if it is stored.
 #[derive(Clone, Copy, PartialEq, Eq)]
 pub enum Message<P> {
-    /// Kind 1, or kind 4 where it has a limit: hands a datagram to the next station, under the custody number that the
-    /// sender gave it.
+    /// Kind 1, or kind 4 if it has a limit: transfers a datagram to the next station, under the custody number that
+    /// the sender gave it.
     Data {
         from: StationId,
         to: StationId,
         number: u64,
-        /// How long it may wait in the queue, in microseconds of the hop's link clock; 0 for no limit.
+        /// How long it may wait in the queue, in microseconds of the hop's link clock; 0 = no limit.
         limit: u64,
         payload: P,
     },
-    /// Kind 2: all numbers up to `last` are kept by the station that says so.
+    /// Kind 2: acknowledges all numbers up to `last` as stored by the station that sends it.
     Custody {
         from: StationId,
         to: StationId,
         last: u64,
     },
-    /// Kind 3: the Data with this number was refused; `refusal` is the refusal's number. A reader takes any byte.
+    /// Kind 3: the Data with this number was refused, for the cause with this number. A reader accepts any byte.
     Refused {
         from: StationId,
         to: StationId,
@@ -42,8 +41,8 @@ pub enum Message<P> {
 /// The length of the longest message in bytes: a Data with a limit and a payload of 8,192.
 pub const MAX_MESSAGE: usize = 8_215;
 
-/// The length in bytes of the longest message whose payload has at most so many: for whoever keeps room for the messages
-/// of a spool with payloads of at most that length. No message's payload has more than 8,192.
+/// The length in bytes of the longest message whose payload has at most this many bytes, to size buffers for the
+/// messages of a spool. A payload has at most 8,192 bytes.
 pub fn longest_message(payload: u64) -> usize
     ensures { result ≡ longest_message payload }
 {
@@ -56,10 +55,10 @@ pub(crate) const MAGIC: u16 = 0x524c;
 /// The version of the protocol.
 pub(crate) const VERSION: u8 = 1;
 
-/// The length in bytes of what every message begins with.
+/// The length in bytes of the header of every message.
 pub(crate) const HEADER_LENGTH: usize = 8;
 
-/// The places at which the fields of a message begin.
+/// The offsets of the fields of a message.
 pub(crate) mod place {
     pub const VERSION: usize = 2;
 

@@ -1,7 +1,7 @@
 ghost use Rattle.std.specs.Prelude.{◌≡◌, List, ℕ};
 ghost use Rattle.std.specs.Option.{option_map};
 ghost use Rattle.rly_hop.specs.Payloads.{in_action_bytes, in_event_bytes, message_bytes};
-ghost use Rattle.rly_hop.specs.Receiving.{is_told, receiver, receiving_step, take_reply};
+ghost use Rattle.rly_hop.specs.Receiving.{is_reported_refusal, receiver, receiving_step, take_reply};
 
 mod event;
 
@@ -10,8 +10,8 @@ pub use crate::receiving::event::{InAction, InEvent, TakeAnswer};
 use rly_core::Refusal;
 use std::marker::Model;
 
-/// The receiving end of custody, as a machine that calls nothing (`docs/PROTOCOL.md`, "The receiving core"). It takes one
-/// Data of its peer station at a time, and sends custody for it only on the answer to that Take.
+/// The state machine of the receiving end (`docs/PROTOCOL.md`, "The receiving core"). It handles one Data of its
+/// peer station at a time, and sends custody for it only after the answer to that Take.
 #[derive(Drop)]
 pub struct Receiving {
     own: StationId,
@@ -28,7 +28,7 @@ impl Model for Receiving {
 }
 
 impl Receiving {
-    /// The core of the station `own`, which takes what its neighbour `peer_station` hands over. Nothing is pending.
+    /// The core of the station `own`, which takes custody from its neighbour `peer_station`. Nothing is pending.
     pub fn new(own: StationId, peer_station: StationId) -> Self
         ensures { result ≡ receiver own peer_station }
     {
@@ -39,7 +39,7 @@ impl Receiving {
         }
     }
 
-    /// What one event leaves, and the one action that it names, if it names one.
+    /// Handles one event: updates the state and returns at most one action.
     pub fn step<'a>(&mut self, event: InEvent<&'a [u8]>) -> Option<InAction<&'a [u8]>>
         ensures state { self.new ≡ (receiving_step self.old (in_event_bytes event.entry)).0 }
         ensures action { option_map in_action_bytes result ≡ (receiving_step self.old (in_event_bytes event.entry)).1 }
@@ -74,7 +74,7 @@ impl Receiving {
         }
     }
 
-    /// What the peer station is told once the Take of this number was answered, if it is told anything.
+    /// The message to the peer station after the Take of this number was answered, if there is one.
     fn reply<'a>(&self, number: u64, answer: TakeAnswer) -> Option<Message<&'a [u8]>>
         ensures { option_map (λ m. InAction.Send (message_bytes m)) result ≡ take_reply self.now number answer }
     {
@@ -84,12 +84,14 @@ impl Receiving {
             TakeAnswer::Refused(Refusal::Gap(expected)) => {
                 expected.checked_sub(1).map(|last| self.custody(last))
             }
-            TakeAnswer::Refused(refusal) if is_told_refusal(refusal) => Some(Message::Refused {
-                from: self.own,
-                to: self.peer,
-                number,
-                refusal: refusal.number(),
-            }),
+            TakeAnswer::Refused(refusal) if is_reported_refusal(refusal) => Some(
+                Message::Refused {
+                    from: self.own,
+                    to: self.peer,
+                    number,
+                    refusal: refusal.number(),
+                },
+            ),
             TakeAnswer::Refused(_) | TakeAnswer::Other => None,
         }
     }
@@ -106,9 +108,9 @@ impl Receiving {
     }
 }
 
-/// Whether the peer station is told that a Take was refused for this cause.
-fn is_told_refusal(refusal: Refusal) -> bool
-    ensures { result ≡ is_told refusal }
+/// Whether a refusal of a Take for this cause is sent to the peer station.
+fn is_reported_refusal(refusal: Refusal) -> bool
+    ensures { result ≡ is_reported_refusal refusal }
 {
     matches!(
         refusal,

@@ -1,7 +1,7 @@
 ghost use Rattle.std.specs.Prelude.{◌≡◌, ◌+◌, ◌-◌, is_some, not, true, List, ℕ};
 ghost use Rattle.std.specs.Option.{option_map};
 ghost use Rattle.rly_hop.specs.Payloads.{out_action_bytes, out_event_bytes};
-ghost use Rattle.rly_hop.specs.Sending.{after_custody, after_release, is_unsure, sender, sending_step, turn};
+ghost use Rattle.rly_hop.specs.Sending.{after_custody, after_release, is_unsure, sender, sending_step, turn_action};
 
 mod event;
 
@@ -10,8 +10,9 @@ pub use crate::sending::event::{OutAction, OutEvent};
 use rly_core::Refusal;
 use std::marker::Model;
 
-/// The sending end of custody, as a machine that calls nothing (`docs/PROTOCOL.md`, "The sending core"). It knows numbers
-/// in flight from answered calls alone, sends their datagrams in order, and releases what the hop's station acknowledged.
+/// The state machine of the sending end (`docs/PROTOCOL.md`, "The sending core"). It learns the numbers in flight
+/// from answered calls only, sends their datagrams in order, and releases those that the hop's station
+/// acknowledged.
 #[derive(Drop)]
 pub struct Sending {
     own: StationId,
@@ -71,13 +72,13 @@ impl Sending {
         }
     }
 
-    /// What one event leaves, and the one action that it names, if it names one.
+    /// Handles one event: updates the state and returns at most one action.
     pub fn step<'a>(&mut self, event: OutEvent<&'a [u8]>) -> Option<OutAction<&'a [u8]>>
         ensures state { self.new ≡ (sending_step self.old (out_event_bytes event.entry)).0 }
         ensures action { option_map out_action_bytes result ≡ (sending_step self.old (out_event_bytes event.entry)).1 }
     {
         match event {
-            OutEvent::Turn { is_open } => return self.turn(is_open),
+            OutEvent::Turn { is_open } => return self.turn_action(is_open),
             OutEvent::Fetched {
                 number,
                 limit,
@@ -96,28 +97,28 @@ impl Sending {
         None
     }
 
-    /// Whether something was acknowledged since the last release.
+    /// Whether a number was acknowledged since the last release.
     pub fn has_acknowledged(&self) -> bool
         ensures { result ≡ is_some self.now.acked }
     {
         self.acked.is_some()
     }
 
-    /// The number that the next datagram goes into flight under.
+    /// The number that the next datagram gets when it enters the flight.
     pub fn next(&self) -> u64
         ensures { result ≡ self.now.next }
     {
         self.next
     }
 
-    /// How many datagrams may be in flight beside those that are.
+    /// How many more datagrams may enter the flight.
     pub fn room(&self) -> u64
         ensures { result ≡ self.now.window - (self.now.next - self.now.first) }
     {
         self.window.saturating_sub(self.next - self.first)
     }
 
-    /// How many datagrams may be in flight beside those that are, once all up to this number are released.
+    /// How many more datagrams may enter the flight once all up to this number are released.
     pub fn room_after(&self, number: u64) -> u64
         ensures { result ≡ self.now.window - (self.now.next - (number + 1)) }
     {
@@ -125,16 +126,16 @@ impl Sending {
         self.window.saturating_sub(left)
     }
 
-    /// Whether nothing is left to do but to hear: a turn would name nothing, also while a contact is open.
+    /// Whether the core can only receive: a turn would request nothing, even with the contact open.
     pub fn can_only_hear(&self) -> bool
-        ensures { result ≡ not (is_some (turn self.now true)) }
+        ensures { result ≡ not (is_some (turn_action self.now true)) }
     {
-        self.turn(true).is_none()
+        self.turn_action(true).is_none()
     }
 
-    /// The call that a turn names, if it names one.
-    fn turn<'a>(&self, is_open: bool) -> Option<OutAction<&'a [u8]>>
-        ensures { option_map out_action_bytes result ≡ turn self.now is_open }
+    /// The call that a turn requests, if any.
+    fn turn_action<'a>(&self, is_open: bool) -> Option<OutAction<&'a [u8]>>
+        ensures { option_map out_action_bytes result ≡ turn_action self.now is_open }
     {
         if !self.ready {
             return Some(OutAction::AskWindow);
@@ -176,7 +177,7 @@ impl Sending {
         }
     }
 
-    /// A payload was fetched: the message that sends it with its limit, where it is the one that the cursor stands at.
+    /// A payload was fetched: the message that sends it with its limit, if it is the one at the cursor.
     fn fetched<'a>(
         &mut self,
         number: u64,
@@ -184,7 +185,8 @@ impl Sending {
         payload: &'a [u8],
     ) -> Option<OutAction<&'a [u8]>>
         ensures state { self.new ≡ (sending_step self.old (OutEvent.Fetched number limit payload.now)).0 }
-        ensures action { option_map out_action_bytes result ≡ (sending_step self.old (OutEvent.Fetched number limit payload.now)).1 }
+        ensures action { option_map out_action_bytes result
+            ≡ (sending_step self.old (OutEvent.Fetched number limit payload.now)).1 }
     {
         if !self.ready || number != self.cursor || self.cursor >= self.next {
             return None;
@@ -199,7 +201,7 @@ impl Sending {
         }))
     }
 
-    /// A release was answered: what was acknowledged is no longer in flight.
+    /// A release was answered: the acknowledged numbers leave the flight.
     fn released(&mut self)
         ensures { self.new ≡ after_release self.old self.old.acked }
     {
@@ -209,7 +211,7 @@ impl Sending {
         }
     }
 
-    /// The hop's station says that it keeps all numbers up to `last`.
+    /// The hop's station acknowledges all numbers up to `last`.
     fn acknowledged(&mut self, from: StationId, to: StationId, last: u64)
         ensures { self.new ≡ after_custody self.old from to last }
     {
@@ -224,7 +226,7 @@ impl Sending {
     }
 }
 
-/// Whether the window has to be asked for anew after this refusal: what is in flight isn't known for sure.
+/// Whether the core must ask for the window again after this refusal, since the flight is uncertain.
 fn is_unsure_answer(refusal: Refusal) -> bool
     ensures { result ≡ is_unsure refusal }
 {

@@ -1,28 +1,29 @@
--- Of the calls of a round: how often they sync; that of those of one that goes on none fails but reads; and what tells that a read failed.
+-- The calls of a round: the number of syncs; if the journal isn't broken only reads failed; and the signs of a failed
+-- read.
 use Rattle.rly_journal.proofs.Common.{[], all_are_reads, AllByRecursion, append-nil, are_reads, AreReads, AreTried, arith, Bool, Commands, count_joined}
-use Rattle.rly_journal.proofs.Common.{count_of, cut_behind, DeviceEvent, DiskState, drawing_for, false, head_spelled, heading, is_failed_call, is_failed_read}
-use Rattle.rly_journal.proofs.Common.{is_spent, is_sync_call, List, logging, Makes, MakesFront, None, one_if, OnlyReadsFailed, Option, payloads_of, refl}
-use Rattle.rly_journal.proofs.Common.{Renewal, renewing, replacing_writes, rounding, row_tried, segment_place, slice_index_or, Some, stored_form, stored_length}
-use Rattle.rly_journal.proofs.Common.{Tail, tried_syncs, Tries, tries_joined, true, Try, unheaded, ℕ, ◌++◌, ◌+◌, ◌∷◌, ◌≡◌, ◌≤◌}
+use Rattle.rly_journal.proofs.Common.{count_of, cut_behind, DeviceEvent, DiskState, victim_reads_for, false, head_spelled, head_calls, is_failed_call, is_failed_read}
+use Rattle.rly_journal.proofs.Common.{is_spent, is_sync_call, List, log_calls, Makes, MakesFront, None, one_if, OnlyReadsFailed, Option, payloads_of, refl}
+use Rattle.rly_journal.proofs.Common.{Renewal, renewal_calls, replacing_writes, round_tries, row_tried, segment_place, slice_index_or, Some, stored_form, stored_length}
+use Rattle.rly_journal.proofs.Common.{Tail, tried_syncs, Tries, tries_joined, true, Try, failed_head_tries, ℕ, ◌++◌, ◌+◌, ◌∷◌, ◌≡◌, ◌≤◌}
 use Rattle.rly_disk.proofs.Making.{Done, Failed, makes_syncs, reads_sound, Row, row_of}
-use Rattle.rly_fetching.specs.Trials.{row_of as try_of}
+use Rattle.rly_disk.specs.Trials.{row_of as try_of}
 
--- ---- a row of calls that was made whole, and another one after it
+-- ---- a list of calls that was made completely, and another one after it
 
 module _ {D : Type 0} (state : D → DiskState) {a b : D} where
   pub two_tried : {m : D} (first second : List DeviceEvent) (whole : Bool) → Makes state first true a m → Makes state second whole m b
       → Tries state (try_of first true ∷ try_of second whole ∷ []) a b
   two_tried first second whole one two = tries_joined state _ _ (row_tried state first true one) (row_tried state second whole two)
 
-  -- both as one row
-  pub unheaded_made : (tail : Tail) (r : Renewal) → Tries state (unheaded tail r) a b → Makes state (renewing tail r) false a b
+  -- both as one list
+  pub unheaded_made : (tail : Tail) (r : Renewal) → Tries state (failed_head_tries tail r) a b → Makes state (renewal_calls tail r) false a b
   unheaded_made tail r tries =
       let u = tries.tried.4 in
-      let all : tries.events ≡ drawing_for tail r ++ u.0 = grind (arith, tries.tried.2, tries.tried.3, u.2, u.4, append-nil u.0) in
-      let made = rw (← all) at (cut_behind (is_spent (state b)) (drawing_for tail r) (heading tail r) u.0 u.3) in
+      let all : tries.events ≡ victim_reads_for tail r ++ u.0 = grind (arith, tries.tried.2, tries.tried.3, u.2, u.4, append-nil u.0) in
+      let made = rw (← all) at (cut_behind (is_spent (state b)) (victim_reads_for tail r) (head_calls tail r) u.0 u.3) in
       search tries
 
--- ---- rows of reads
+-- ---- lists of reads
 
 abbrev AreAlone : List DeviceEvent → Type 0
 AreAlone events = count_of is_failed_call events ≡ count_of is_failed_read events
@@ -34,7 +35,8 @@ IsUnread spent events = 1 ≤ count_of is_failed_read events + one_if spent
 abbrev IsSoundRow : Try → Type 0
 IsSoundRow row = (count_of is_failed_call row.calls ≡ 0) × (row.whole ≡ false → are_reads row.calls ≡ true)
 
--- of a row of calls that is made whole, or is of reads, only reads fail; and where it was cut, one failed or wasn't counted
+-- in a list of calls that is made completely, or has only reads, only reads fail; if it was cut, one failed or wasn't
+-- counted
 pub row_alone : {whole spent : Bool} {calls events : List DeviceEvent} → Row whole spent calls events → IsSoundRow (record { calls = calls; whole = whole })
     → AreAlone events × (whole ≡ false → IsUnread spent events)
 row_alone (Done {call = call} row) sound = let more = row_alone row in grind (arith, more, sound.0, sound.1)
@@ -53,7 +55,7 @@ reads_rows (row ∷ rows) reads = ((reads_sound row.calls reads.0, λ _. reads.0
 
 -- ---- the calls of a round
 
-pub drawing_reads : (tail : Tail) (r : Renewal) → are_reads (drawing_for tail r) ≡ true
+pub drawing_reads : (tail : Tail) (r : Renewal) → are_reads (victim_reads_for tail r) ≡ true
 drawing_reads tail r = all_are_reads tail.geometry r.victim (payloads_of r.places)
 
 reads_front : (done rest : List DeviceEvent) → are_reads (done ++ rest) ≡ true → are_reads done ≡ true
@@ -67,15 +69,15 @@ reads_sync (call ∷ calls) reads = let more = reads_sync calls in grind (arith,
 abbrev AreSound : ℕ → List DeviceEvent → Type 0
 AreSound syncs calls = (count_of is_sync_call calls ≤ syncs) × (count_of is_failed_call calls ≡ 0)
 
-pub logging_sound : (gate : ℕ) (commands : Commands) → AreSound 2 (logging gate commands)
+pub logging_sound : (gate : ℕ) (commands : Commands) → AreSound 2 (log_calls gate commands)
 logging_sound gate [] = omega arith
 logging_sound gate (command ∷ commands) = omega arith
 
-renewing_sound : (tail : Tail) (r : Renewal) → AreSound 3 (renewing tail r)
+renewing_sound : (tail : Tail) (r : Renewal) → AreSound 3 (renewal_calls tail r)
 renewing_sound tail r =
     let text : List ℕ = head_spelled stored_length stored_form (tail.generation + 1) r.copy ++ 0 ∷ [] in
     let head = replacing_writes (segment_place tail.geometry r.target) (slice_index_or tail.closed r.target false) text in
-    omega (arith, head, reads_sync (drawing_for tail r) (drawing_reads tail r), reads_sound (drawing_for tail r) (drawing_reads tail r), count_joined)
+    omega (arith, head, reads_sync (victim_reads_for tail r) (drawing_reads tail r), reads_sound (victim_reads_for tail r) (drawing_reads tail r), count_joined)
 
 -- ---- on a disk
 
@@ -84,18 +86,18 @@ module _ {D : Type 0} (state : D → DiskState) {a b : D} where
   tried_alone rows tries sound =
       omega (arith, tries.leads.failures, tries.leads.failed_reads, rows_alone (is_spent (state b)) rows tries.events tries.tried sound)
 
-  -- where the journal goes on, none fails but reads
+  -- if the journal isn't broken, only reads failed
   pub round_alone : (tail : Tail) (opened : Option Renewal) (commands : Commands) (fetches : List Try)
-      → Tries state (rounding tail opened commands true ++ fetches) a b → AreReads fetches → OnlyReadsFailed (state a) (state b)
+      → Tries state (round_tries tail opened commands true ++ fetches) a b → AreReads fetches → OnlyReadsFailed (state a) (state b)
   round_alone tail None commands fetches tries reads = tried_alone _ tries (((logging_sound tail.gate commands).1, λ never. cc), reads_rows fetches reads)
   round_alone tail (Some r) commands fetches tries reads =
       tried_alone _ tries (((renewing_sound tail r).1, λ never. cc), (((logging_sound _ commands).1, λ never. cc), reads_rows fetches reads))
 
-  pub renewing_syncs : (tail : Tail) (r : Renewal) {whole : Bool} → Makes state (renewing tail r) whole a b → (state b).syncs ≤ (state a).syncs + 3
+  pub renewing_syncs : (tail : Tail) (r : Renewal) {whole : Bool} → Makes state (renewal_calls tail r) whole a b → (state b).syncs ≤ (state a).syncs + 3
   renewing_syncs tail r made = omega (arith, makes_syncs state made, (renewing_sound tail r).0)
 
-  -- where the victim's payloads were read, and nothing else was done
-  module _ (tail : Tail) (r : Renewal) {whole : Bool} (made : MakesFront state (drawing_for tail r) whole a b) where
+  -- the victim's payloads were read, and no other call was made
+  module _ (tail : Tail) (r : Renewal) {whole : Bool} (made : MakesFront state (victim_reads_for tail r) whole a b) where
     pub drawn_counts : OnlyReadsFailed (state a) (state b) × ((state b).syncs ≤ (state a).syncs + 3)
     drawn_counts =
         let tries = row_tried state made.front whole made.makes in

@@ -1,13 +1,13 @@
--- Calls that are evaluated one after the other.
+-- The evaluation of calls in order.
 use Rattle.rly_journal.proofs.Common.{[], accepted_push, ap, append-nil, append_assoc, AreOutcomes, arith, Call, Commands, empty_group, fold, fold_push}
 use Rattle.rly_journal.proofs.Common.{Geometry, GroupState, holds_command, holds_more, holds_none, if◌then◌else◌, IndexState, inl, inr, is_command, IsAlike}
 use Rattle.rly_journal.proofs.Common.{IsDue, IsEvaluated, IsGrouping, IsOutcomeOf, IsTakenOrLeft, length, length-append, List, or_left, or_right, Outcome}
-use Rattle.rly_journal.proofs.Common.{placed_group, placed_told, refl, segment_place, State, Stored, stored_length, sym, taken_by, taken_of, true, zip, ℕ, ◌++◌}
+use Rattle.rly_journal.proofs.Common.{placed_group, placed_told, refl, segment_place, State, Stored, stored_length, sym, command_accepted, taken_of, true, zip, ℕ, ◌++◌}
 use Rattle.rly_journal.proofs.Common.{◌+◌, ◌-◌, ◌∙◌, ◌∷◌, ◌≡◌, ◌≤◌}
 use Rattle.std.proofs.lemmas.List.Folds.{list_any-append}
 use Rattle.rly_journal.proofs.Redone.{alike_commands}
 
--- ---- one call more
+-- ---- one more call
 
 zip_push : (call : Call) (outcome : Outcome) (calls : List Call) (outcomes : List Outcome) → length outcomes ≡ length calls
     → zip (calls ++ call ∷ []) (outcomes ++ outcome ∷ []) ≡ zip calls outcomes ++ (call, outcome) ∷ []
@@ -15,9 +15,9 @@ zip_push call outcome [] [] same = refl
 zip_push call outcome (a ∷ calls) (b ∷ outcomes) same = ap (λ l. (a, b) ∷ l) (zip_push call outcome calls outcomes (omega (arith, same)))
 zip_push call outcome _ _ same = absurd (omega (arith, same))
 
-taken_push : (x : Call × Outcome) (xs : List (Call × Outcome)) → taken_of (xs ++ x ∷ []) ≡ taken_of xs ++ taken_by x.0 x.1
-taken_push x [] = append-nil (taken_by x.0 x.1)
-taken_push x (y ∷ xs) = let rest = taken_push x xs in grind (arith, append_assoc (taken_by y.0 y.1) (taken_of xs) (taken_by x.0 x.1))
+taken_push : (x : Call × Outcome) (xs : List (Call × Outcome)) → taken_of (xs ++ x ∷ []) ≡ taken_of xs ++ command_accepted x.0 x.1
+taken_push x [] = append-nil (command_accepted x.0 x.1)
+taken_push x (y ∷ xs) = let rest = taken_push x xs in grind (arith, append_assoc (command_accepted y.0 y.1) (taken_of xs) (command_accepted x.0 x.1))
 
 outcomes_push : (g : Geometry) (gate : ℕ) (s : State Stored) (t : State (List ℕ)) (done : Commands) (x : Call × Outcome) (xs : List (Call × Outcome))
     → AreOutcomes g gate s t done xs
@@ -25,20 +25,20 @@ outcomes_push : (g : Geometry) (gate : ℕ) (s : State Stored) (t : State (List 
     → AreOutcomes g gate s t done (xs ++ x ∷ [])
 outcomes_push g gate s t done x [] all one = (rw (append-nil done) at one, tt)
 outcomes_push g gate s t done x (y ∷ xs) all one =
-    (all.0, outcomes_push g gate s t (done ++ taken_by y.0 y.1) x xs all.1 (rw (append_assoc done (taken_by y.0 y.1) (taken_of xs)) one))
+    (all.0, outcomes_push g gate s t (done ++ command_accepted y.0 y.1) x xs all.1 (rw (append_assoc done (command_accepted y.0 y.1) (taken_of xs)) one))
 
--- how many commands are accepted: none of a question
+-- the number of accepted commands: none for a query
 pub few_taken : (calls : List Call) (outcomes : List Outcome)
     → (length (taken_of (zip calls outcomes)) ≤ length calls) × (1 ≤ length (taken_of (zip calls outcomes)) → holds_command calls ≡ true)
 few_taken (call ∷ calls) (outcome ∷ outcomes) =
-    let one : length (taken_by call outcome) ≤ (if is_command call.ask then 1 else 0) = grind arith in
+    let one : length (command_accepted call outcome) ≤ (if is_command call.ask then 1 else 0) = grind arith in
     let rest = few_taken calls outcomes in
-    let both = length-append (taken_by call outcome) (taken_of (zip calls outcomes)) in grind (arith, or_left, or_right)
+    let both = length-append (command_accepted call outcome) (taken_of (zip calls outcomes)) in grind (arith, or_left, or_right)
 few_taken _ _ = (omega arith, λ some. absurd (omega (arith, some)))
 
 -- ---- the loop
 
--- a round that evaluated the first of its calls
+-- a round after the evaluation of its first calls
 pub record IsEvaluating (gate : ℕ) (old x : IndexState) (group : GroupState) (before now : Commands) (all rest : List Call) (outcomes : List Outcome)
     : Type 0 where
   pub served : List Call
@@ -63,7 +63,7 @@ module _ {gate : ℕ} {old x : IndexState} {group : GroupState} {before now : Co
       let asks : holds_command all ≡ true = rw (so_far.calls, cut) (grind (arith, is, parts, or_left, or_right)) in
       search (arith, e, e.geometry, e.segment, (few_taken so_far.served outcomes).0, ap length so_far.calls, size, ap length cut, ready asks)
 
-  -- the call was evaluated: it is one of those that were
+  -- the call was evaluated: it is one of the first
   module _ {y : IndexState} {new : GroupState} {after : Commands} (outcome : Outcome)
       (came : (t : State (List ℕ)) → IsAlike x.spool.state t → IsOutcomeOf x.geometry call outcome x.spool.state t)
       (done : IsTakenOrLeft gate call outcome x y group new now after) where
@@ -73,7 +73,7 @@ module _ {gate : ℕ} {old x : IndexState} {group : GroupState} {before now : Co
     abbrev taken : Commands
     taken = taken_of (zip (so_far.served ++ call ∷ []) (outcomes ++ outcome ∷ []))
 
-    named : taken ≡ commands ++ taken_by call outcome
+    named : taken ≡ commands ++ command_accepted call outcome
     named = rw (zip_push call outcome so_far.served outcomes so_far.evaluated.count) (taken_push (call, outcome) (zip so_far.served outcomes))
 
     counts : length (outcomes ++ outcome ∷ []) ≡ length (so_far.served ++ call ∷ [])

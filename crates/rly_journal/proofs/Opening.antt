@@ -1,14 +1,14 @@
--- What a journal shows once its device was opened.
+-- The state that a journal shows after its device was opened.
 use Rattle.rly_journal.proofs.Common.{[], ap, arith, Commands, Consistent, device_length, DiskState, false, get_or, HoldsIndex, IndexState, IsAlike, IsAtEnd}
 use Rattle.rly_journal.proofs.Common.{IsDurable, IsLoggedFor, IsShaped, IsSoundJournal, length, length-append, length-replicate, length-take, List, map_state}
 use Rattle.rly_journal.proofs.Common.{maps_held, OnlyRead, payload_in, payloads_of, refl, replicate, Settled, shown_in, shown_state, Stands, State, state_in}
 use Rattle.rly_journal.proofs.Common.{state_twice, Stored, stored_length, sym, Tail, take_at, whole, ℕ, ◌∙◌, ◌≡◌, ◌≤◌}
 
--- a payload that is shown has its length on any image
+-- a payload that is shown has its length over any image
 pub shown_length : (image : List ℕ) (p : Stored) → length (shown_in image p) ≡ stored_length p
 shown_length image p = omega (arith, length-take {A = ℕ}, length-append {A = ℕ}, length-replicate {A = ℕ})
 
--- where the image has all of it, it is shown as it is
+-- if the image contains it, it is shown unchanged
 pub shown_whole : (image : List ℕ) (p : Stored) → length (payload_in image p) ≡ stored_length p → shown_in image p ≡ payload_in image p
 shown_whole image p all = grind (arith, all, take_at (payload_in image p) (replicate (stored_length p) 0) (length (payload_in image p)) refl)
 
@@ -30,7 +30,7 @@ module _ {tail : Tail} {x : IndexState} {disk : DiskState} (facts : disk.honest 
       let lies = (index_there tail x ends holds).index.there in maps_held (payload_in disk.seen) (shown_in disk.seen) x.spool.state (λ k d lt.
       let p = get_or (payloads_of x.spool.state) k d in sym (shown_whole disk.seen p (whole disk.seen tail.geometry long p (lies k d lt))))
 
-  -- a journal that accepted nothing yet: its state from what only proofs read
+  -- a journal without accepted commands: its state in terms of its ghost fields
   module _ {image : List ℕ} {s : State Stored} {commands : Commands} (is : image ≡ disk.seen) (same : s ≡ x.spool.state) (none : commands ≡ []) where
     pub opened_sound : {position : ℕ} → (disk.honest → Settled disk) → (disk.honest → IsLoggedFor disk.seen tail x) → position ≡ x.spool.state.seq
         → IsSoundJournal disk tail x (shown_state image s commands) position false
@@ -40,7 +40,7 @@ module _ {tail : Tail} {x : IndexState} {disk : DiskState} (facts : disk.honest 
         λ honest. record { settled = settled honest; logged = rw (← shown_there honest) (logged honest).read } in
         let tagged = λ (honest : disk.honest). (logged honest).tagged in rw (is, same, none) (search shown_there)
 
-    -- and so the device that was opened stands for it
+    -- and so the device that was opened recovers to it
     pub opened_stands : {old : DiskState} → OnlyRead old disk → old.honest → IsLoggedFor old.seen tail x → Stands old.seen (shown_state image s commands)
     opened_stands only honest logged =
         let again = only.crash honest in let read = logged.read in

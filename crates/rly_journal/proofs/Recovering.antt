@@ -1,23 +1,23 @@
--- What is read of a device, group by group, where payloads stay there.
+-- The reading of a device, group by group; payloads stay there.
 use Rattle.rly_journal.proofs.Common.{[], accepted-more, AllAccepted, ap, append-nil, arith, before_quiet, body_of, broken_commands, Commands, Consistent}
 use Rattle.rly_journal.proofs.Common.{DiskState, EndsAt, first_of, fold, front_all, gate_after, gate_behind-more, gate_scan, gates_quiet, gathered_kept}
 use Rattle.rly_journal.proofs.Common.{Geometry, group_scan, groups-more, HaveBody, head_scanned, head_tail, head_unread, HoldsGroup, HoldsIndex, IndexState}
 use Rattle.rly_journal.proofs.Common.{inl, inr, IsAlike, IsAt, IsBroken, IsClosed, IsFull, IsGivenUp, IsHeadOf, IsLayout, IsReadHeader, IsReading, IsReadNewest}
-use Rattle.rly_journal.proofs.Common.{IsRecovered, IsRedone, IsRefused, IsReplayedFor, IsShaped, IsStanding, length, length-frame, List, Makes, MakesFront, Ok}
+use Rattle.rly_journal.proofs.Common.{IsRecovered, IsRedone, IsRefused, IsReplayedFor, IsShaped, IsRecovery, length, length-frame, List, Makes, MakesFront, Ok}
 use Rattle.rly_journal.proofs.Common.{only_made, OnlyRead, OpenFault, Option, params_fold, past_body, placed_group, Read, read_again, refl, replayed-more}
-use Rattle.rly_journal.proofs.Common.{scan_broken, scanned_all, scanned_group, segment_end, segment_place, seq_fold, settled_stands, settled_state, Some}
-use Rattle.rly_journal.proofs.Common.{Standing, standing_once, State, state_in, state_spelled, Stored, stored_length, stored_spelled, subst, sym, Tail, tells}
+use Rattle.rly_journal.proofs.Common.{scan_broken, scanned_all, scanned_group, segment_end, segment_place, seq_fold, settled_stands, state_in_head, Some}
+use Rattle.rly_journal.proofs.Common.{Recovery, standing_once, State, state_in, state_spelled, Stored, stored_length, stored_spelled, subst, sym, Tail, open_calls_succeeded}
 use Rattle.rly_journal.proofs.Common.{true, with_gate, with_group, ℕ, ◌+◌, ◌<◌, ◌∙◌, ◌∷◌, ◌≡◌, ◌≤◌}
 use Rattle.rly_segment.specs.declared.generations.NewestHead.{NewestHead}
 use Rattle.rly_segment.specs.declared.heads.Head.{Head}
 use Rattle.rly_segment.specs.Calls.{head_reads}
 use Rattle.rly_segment.specs.PlacedHeads.{HoldsNonePlaced, HoldsPlaced, IsReadPlaced}
-use Rattle.rly_standing.specs.declared.open_fault.OpenFault.TheVariants.{Damaged, OutOfMemory}
+use Rattle.rly_journal.specs.declared.open_fault.OpenFault.TheVariants.{Damaged, OutOfMemory}
 use Rattle.rly_journal.proofs.Opening.{index_there, shown_alike, shown_there}
 use Rattle.rly_journal.proofs.Redone.{alike_commands, placed_count}
 use Rattle.rly_journal.proofs.Tagging.{head_tagged, tagged_more}
 
--- accepted commands leave the shape, with a gate that is further on or where it was
+-- accepted commands keep the shape, with a gate that is later or the same
 pub shape_after : {size : ℕ} {tail : Tail} {x y : IndexState} (commands : Commands) → IsShaped size tail x
     → AllAccepted stored_length x.spool.state (placed_group tail.gate commands)
     → y.spool.state ≡ fold stored_length x.spool.state (placed_group tail.gate commands) → (gate : ℕ) → tail.gate ≤ gate
@@ -44,7 +44,7 @@ module _ {D : Type 0} {state : D → DiskState} (facts : (disk : D) → (state d
     only_looked : OnlyRead (state start) (state now)
     only_looked = only_made state facts (gates_quiet g) looked.made
 
-    -- memory was refused for the head
+    -- the allocation for the head failed
     pub head_starved : {next : D} (body : Option ℕ) → Makes state (head_reads (segment_place g found.segment) body) true now next
         → IsGivenUp state OutOfMemory start next
     head_starved body made = record {
@@ -70,13 +70,13 @@ module _ {D : Type 0} {state : D → DiskState} (facts : (disk : D) → (state d
     pub head_read : {next : D} (held : Head Stored) {x : IndexState} {body : Option ℕ} → let s = held.machine.state in let form = stored_spelled held.form in
         IsHeadOf stored_length form g found.segment held.generation s → held.gate ≡ gate_after stored_length form g found.segment s
         → ((state now).honest → IsReadPlaced (state now).seen g found.segment (Ok held)) → body ≡ Some (length (state_spelled stored_length form s))
-        → x.spool.state ≡ settled_state held.form g found.segment s → IsAt g found.segment held.gate x
+        → x.spool.state ≡ state_in_head held.form g found.segment s → IsAt g found.segment held.gate x
         → Makes state (head_reads (segment_place g found.segment) body) true now next
         → IsReading state (head_tail g found.segment held.generation held.gate found.closed) x start next
     head_read held {x} head gate read spelled settled at made =
         let s : State Stored = held.machine.state in let seen : List ℕ = (state start).seen in
         let tail : Tail = head_tail g found.segment held.generation held.gate found.closed in
-        let z : Standing =
+        let z : Recovery =
         record { geometry = g; segment = found.segment; generation = held.generation; form = held.form; head = s; checkpoint = state_in seen s; groups = [] } in
         let scanned = head_scanned tail _ gate looked.made (rw spelled at made) in
         let params = ap (λ (m : State Stored). m.params) settled ∙ head.params in let seq = ap (λ (m : State Stored). m.seq) settled in
@@ -96,7 +96,7 @@ module _ {D : Type 0} {state : D → DiskState} (facts : (disk : D) → (state d
           scanned = scanned;
         }
 
-  -- ---- a group more
+  -- ---- one more group
 
   module _ {tail : Tail} {x : IndexState} (so_far : IsReading state tail x start now) where
     only_so_far : OnlyRead (state start) (state now)
@@ -106,26 +106,26 @@ module _ {D : Type 0} {state : D → DiskState} (facts : (disk : D) → (state d
     replayed_now honest =
         let was = only_so_far.later.honest.0 honest in rw (only_so_far.crash was).seen (so_far.replayed was)
 
-    -- reading ends before the group is made again
+    -- reading ends before the group is replayed
     pub given_up : {next : D} {why : OpenFault} → ((state now).honest → IsRefused (state now).seen why)
-        → (n : ℕ) × MakesFront state (group_scan tail.gate n) (tells why) now next → IsGivenUp state why start next
+        → (n : ℕ) × MakesFront state (group_scan tail.gate n) (open_calls_succeeded why) now next → IsGivenUp state why start next
     given_up {why} refused cut =
         record { refused = read_again (λ image. IsRefused image why) only_so_far refused; trace = scan_broken so_far.scanned cut }
 
-    -- a head is the newest, so memory may be refused
+    -- there is a newest head, so an allocation may fail
     pub starved : {next : D} → (n : ℕ) × MakesFront state (group_scan tail.gate n) true now next → IsGivenUp state OutOfMemory start next
     starved = given_up (λ honest.
         let scanned = (replayed_now honest).read.scanned in
         let fits = rw scanned.geometry at scanned.fits in let newest = rw scanned.geometry at scanned.newest in search)
 
-    -- no group can stand there
+    -- no group can lie there
     pub damaged : {next : D} → ((state now).honest → IsReplayedFor (state now).seen tail x → IsBroken (state now).seen tail.gate)
         → (n : ℕ) × MakesFront state (group_scan tail.gate n) true now next → IsGivenUp state (Damaged tail.gate) start next
     damaged broken = given_up (λ honest.
         let was = replayed_now honest in
         let scanned = was.read.scanned in (scanned.device, rw scanned.geometry at scanned.fits, inr (inr (broken honest was))))
 
-    -- the gate after what was read is closed, so that is all
+    -- the gate after the part that was read is closed, so that is all
     pub all_read : {next : D} → ((state now).honest → IsClosed (state now).seen tail.gate) → Makes state (Read tail.gate 1 ∷ []) true now next
         → IsRecovered state tail x start next
     all_read shut made = record {
@@ -134,19 +134,19 @@ module _ {D : Type 0} {state : D → DiskState} (facts : (disk : D) → (state d
       logged = λ honest.
           let was = so_far.replayed honest in let read = was.read in
           let closed = read_again (λ image. IsClosed image tail.gate) only_so_far shut honest in
-          let stands : IsStanding (state start).seen read.x = record { scanned = read.scanned; closed = rw read.ends.gate at closed } in
+          let stands : IsRecovery (state start).seen read.x = record { scanned = read.scanned; closed = rw read.ends.gate at closed } in
           record { read = search; tagged = λ y reads. rw (standing_once read.x y stands reads) at was.tagged };
       trace = scanned_all so_far.scanned made;
     }
 
-    -- ---- where the body of one stands there
+    -- ---- the body of a group lies there
 
     module _ (holds : HoldsIndex x.geometry x.segment x.used x.spool.state) where
       alike_now : (state now).honest → IsAlike x.spool.state (state_in (state now).seen x.spool.state)
       alike_now honest =
           subst (IsAlike x.spool.state) (sym (shown_there (facts now) so_far.shaped so_far.ends holds honest)) (shown_alike (state now).seen x.spool.state)
 
-      -- that spells no commands which are all accepted
+      -- it encodes no commands that are all accepted
       pub unaccepted : {next : D} (body : List ℕ) → ((state now).honest → HoldsGroup (state now).seen tail.gate (segment_end tail.geometry tail.segment) body)
           → ((commands : Commands) → HaveBody commands → body ≡ body_of commands
           → AllAccepted stored_length x.spool.state (placed_group tail.gate commands) → ⊥)
@@ -159,12 +159,12 @@ module _ {D : Type 0} {state : D → DiskState} (facts : (disk : D) → (state d
           (room : tail.gate + 6 + length (body_of commands) ≤ segment_end tail.geometry tail.segment)
           (held : (state now).honest → HoldsGroup (state now).seen tail.gate (segment_end tail.geometry tail.segment) (body_of commands))
           (redone : IsRedone x tail.gate commands y) where
-        -- what was read then has that group more
+        -- the part that was read then has one more group
         replayed_next : (state now).honest → IsReplayedFor (state now).seen tail x
             → IsReplayedFor (state now).seen (past_body tail (length (body_of commands))) y
         replayed_next honest was =
             let s : State Stored = x.spool.state in
-            let read = was.read in let z : Standing = read.x in
+            let read = was.read in let z : Recovery = read.x in
             let alike = alike_now honest in let group = held honest in
             let accepted = rw read.state at ((alike_commands (tail.gate + 7) commands s _ alike).1.0 redone.accepted) in
             let there = rw (read.ends.gate, read.ends.geometry, read.ends.segment) at group in

@@ -1,4 +1,4 @@
--- Commands of a group that are made again on an index, with their payloads by place.
+-- The replay of a group's commands on an index, with their payloads by device address.
 use Rattle.rly_journal.proofs.Common.{[], accepted_parts, accepted_push, alike_after, AllAccepted, AllByRecursion, ap, append_assoc, arith, Command, Commands}
 use Rattle.rly_journal.proofs.Common.{false, false≢true, flat_map, flat_map_more, fold, fold_push, HasRecord, HoldsIndex, IndexState, inl, is_accepted, IsAlike}
 use Rattle.rly_journal.proofs.Common.{IsAt, IsBrought, length, length-append, List, placed_alike, placed_at, placed_brought, placed_from, placed_group}
@@ -6,15 +6,15 @@ use Rattle.rly_journal.proofs.Common.{placed_joined, record_length, record_of, r
 use Rattle.rly_journal.proofs.Common.{stored_length, sym, true, used_after, ℕ, ◌++◌, ◌+◌, ◌↔◌, ◌∙◌, ◌∷◌, ◌≡◌, ◌≤◌, ◌⊎◌}
 use Rattle.rly_record.proofs.Records.{length-record_of}
 
--- ---- places
+-- ---- device addresses
 
 pub placed_count : (place : ℕ) (commands : Commands) → length (placed_from place commands) ≡ length commands
 placed_count place [] = refl
 placed_count place (command ∷ commands) = omega (arith, placed_count (place + record_length length command) commands)
 
--- ---- over places and over bytes
+-- ---- over addresses and over bytes
 
--- both spools go on alike, and accept the same
+-- both spools make the same steps, and accept the same commands
 pub alike_commands : (place : ℕ) (commands : Commands) (s : State Stored) (t : State (List ℕ)) → IsAlike s t
     → IsAlike (fold stored_length s (placed_from place commands)) (fold length t commands)
     × (AllAccepted stored_length s (placed_from place commands) ↔ AllAccepted length t commands)
@@ -27,13 +27,13 @@ alike_commands place (command ∷ commands) s t alike =
 
 -- ---- one command
 
--- the index went on by a command, and is used up to the next record if it was accepted
+-- the index applied a command, and is used up to the next record if it was accepted
 pub record IsStepped (x y : IndexState) (placed : Command Stored) (told : Reply) (next : ℕ) : Type 0 where
   pub state : y.spool.state ≡ (step stored_length x.spool.state placed).0
   pub reply : told ≡ (step stored_length x.spool.state placed).1
   pub at : IsAt x.geometry x.segment (used_after x.used next told) y
 
--- so it did once there was room for it
+-- so it did after its room was reserved
 pub stepped : {x r y : IndexState} {placed command : Command Stored} {told : Reply} {next : ℕ} → r.spool.state ≡ x.spool.state
     → IsAt x.geometry x.segment x.used r → command ≡ placed → y.spool.state ≡ (step stored_length r.spool.state command).0
     → told ≡ (step stored_length r.spool.state command).1 → IsAt r.geometry r.segment (used_after r.used next told) y → IsStepped x y placed told next
@@ -42,8 +42,8 @@ stepped same before is state says after =
 
 -- ---- the loop
 
--- the first of these commands were accepted from a state and led to that of the index, which is used up to the next record, or to
--- the gate where there was none
+-- the first commands were accepted from a state and led to that of the index, which is used up to the next record, or
+-- to the gate if there was none
 pub record IsRedoing (old : IndexState) (gate : ℕ) (all rest : Commands) (at : ℕ) (x : IndexState) : Type 0 where
   pub done : Commands
   pub all_of : all ≡ done ++ rest

@@ -1,7 +1,7 @@
--- An image that a check refuses stands for no state.
+-- An image that fails a check recovers to no state.
 use Rattle.rly_journal.proofs.Common.{IsOfImage, IsRefused, List, OpenFault, Stands, State, ℕ}
-use Rattle.rly_standing.specs.declared.open_fault.OpenFault.TheVariants.{NotADevice, BadGeometry, Damaged}
-use Rattle.rly_standing.proofs.Refusing.{not_damaged}
+use Rattle.rly_journal.specs.declared.open_fault.OpenFault.TheVariants.{NotADevice, BadGeometry, Damaged}
+use Rattle.rly_journal.proofs.Refusals.{not_damaged}
 
 pub refused_stands_for_none : (image : List ℕ) (fault : OpenFault) → IsRefused image fault → IsOfImage fault → (s : State (List ℕ)) → Stands image s → ⊥
 refused_stands_for_none image NotADevice refused said s stands = refused stands.1.scanned.device

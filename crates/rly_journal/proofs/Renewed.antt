@@ -1,42 +1,42 @@
--- The next segment is opened with a head that holds the copy that was drawn: what was chosen and drawn, how it is told, and what its
--- calls leave, at their end and at any moment of them.
-use Rattle.rly_journal.proofs.Common.{[], All, ap, arith, blank, Bool, bytes_at, Call, cases_eq, Consistent, device_length, DiskState, drawing_for, drawn}
-use Rattle.rly_journal.proofs.Common.{drawn_state, end_of_opening, Err, false, Geometry, get_or-set_other, get_or-set_same, HasRoomFor, head_spelled, heading}
+-- The opening of the next segment with a head of the collected copy: the choice and the copy, the calls, and their
+-- images at the end and at any moment.
+use Rattle.rly_journal.proofs.Common.{[], All, ap, arith, blank_payload, Bool, bytes_at, Call, cases_eq, Consistent, device_length, DiskState, victim_reads_for, collected_payload}
+use Rattle.rly_journal.proofs.Common.{collected_state, end_of_opening, Err, false, Geometry, get_or-set_other, get_or-set_same, HasRoomFor, head_spelled, head_calls}
 use Rattle.rly_journal.proofs.Common.{holds_command, image_of_opening, IndexState, inl, Inline, inr, IsAlike, IsAtEnd, IsDueFor, IsDurable, IsFull, IsHeadOf}
-use Rattle.rly_journal.proofs.Common.{IsKept, IsLayout, IsLogged, IsPlaced, IsReadied, IsReady, IsRenewal, IsSameButForBytes, IsShaped, IsSoundJournal}
+use Rattle.rly_journal.proofs.Common.{StandsForBytes, IsLayout, IsLogged, IsPlaced, IsReadied, HasOpenedIfDue, IsRenewal, IsSameButForBytes, IsShaped, IsSoundJournal}
 use Rattle.rly_journal.proofs.Common.{IsStorable, IsTaggedIn, JournalState, LeavesOnly, length, length-append, length-replicate, length-spelled, LiesElsewhere}
-use Rattle.rly_journal.proofs.Common.{LiesThere, List, Makes, makes_nothing, MakesFront, maps_held, maps_same, may_open, MayMove, MayRenew, moved_state, None}
-use Rattle.rly_journal.proofs.Common.{Ok, opened_spelled, overwritten, payloads_of, Place, Placed, refl, Renewal, renewed, renewing, replacing_synced}
+use Rattle.rly_journal.proofs.Common.{LiesThere, List, Makes, makes_nothing, MakesFront, maps_held, maps_same, may_open, MayMove, MayRenew, relocated_state, None}
+use Rattle.rly_journal.proofs.Common.{Ok, opened_spelled, bytes_after_write, payloads_of, DeviceAddress, Placed, refl, Renewal, tail_after_renewal, renewal_calls, replacing_synced}
 use Rattle.rly_journal.proofs.Common.{row_tried, same_inline, same_moved, same_sound, SameOutside, Second, segment_place, segment_within, shown_in, Some}
 use Rattle.rly_journal.proofs.Common.{sound_alike, standing_once, StandsAt, State, state_in, state_spelled, state_twice, Stored, stored_form, stored_in}
-use Rattle.rly_journal.proofs.Common.{stored_length, sym, Tail, Tries, true, unheaded, unread, whole, wider, ℕ, ⊎_elim, ◌++◌, ◌+◌, ◌<◌, ◌∙◌, ◌∷◌, ◌≡◌, ◌≤◌, ◌⊎◌}
+use Rattle.rly_journal.proofs.Common.{stored_length, sym, Tail, Tries, true, failed_head_tries, zeros_at, whole, wider, ℕ, ⊎_elim, ◌++◌, ◌+◌, ◌<◌, ◌∙◌, ◌∷◌, ◌≡◌, ◌≤◌, ◌⊎◌}
 use Rattle.rly_disk.specs.Trace.{are_reads, DeviceEvent, images_within, seen_at_end}
 use Rattle.rly_machine.specs.Sound.{IsSound}
-use Rattle.rly_reclaim.specs.Reclaiming.{IsFree, IsVictim}
-use Rattle.rly_checkpoint.specs.Forms.{HaveForms}
-use Rattle.rly_places.specs.Places.{live_by_segment}
-use Rattle.rly_places.proofs.Drawing.{drawn_empty, drawn_inline, drawn_sound, drawn_stands}
-use Rattle.rly_places.proofs.Placing.{holds_none}
-use Rattle.rly_places.proofs.Rooms.{has_room_for, live_length}
-use Rattle.rly_moving.proofs.Moves.{may_move}
-use Rattle.rly_drawing.proofs.Storable.{drawn_storable, same_storable}
-use Rattle.rly_keeping.proofs.Opened.{drawn_all_apart, moved_lengths, opened_stands}
-use Rattle.rly_standing.specs.Framing.{IsHeadFor}
-use Rattle.rly_standing.proofs.Agreeing.{other_bytes}
-use Rattle.rly_standing.proofs.Framing.{opening_law}
-use Rattle.rly_standing.proofs.Growing.{opened_with, with_head}
-use Rattle.rly_standing.proofs.Inlining.{elsewhere_still}
+use Rattle.rly_reclaim.specs.SegmentChoice.{IsFree, IsVictim}
+use Rattle.rly_segment_checkpoint.specs.Forms.{HaveForms}
+use Rattle.rly_reclaim.specs.Places.{live_by_segment}
+use Rattle.rly_reclaim.proofs.Collection.{drawn_empty, drawn_inline, drawn_sound, drawn_stands}
+use Rattle.rly_reclaim.proofs.Placing.{holds_none}
+use Rattle.rly_reclaim.proofs.LiveRooms.{has_room_for, live_length}
+use Rattle.rly_journal_relocate.proofs.Moves.{may_move}
+use Rattle.rly_journal_relocate.proofs.Storable.{drawn_storable, same_storable}
+use Rattle.rly_journal_index.proofs.Opened.{drawn_all_apart, moved_lengths, opened_stands}
+use Rattle.rly_journal.specs.UntouchedBytes.{IsHeadFor}
+use Rattle.rly_journal.proofs.Agreeing.{other_bytes}
+use Rattle.rly_journal.proofs.UntouchedBytes.{opening_law}
+use Rattle.rly_journal.proofs.Growing.{opened_with, with_head}
+use Rattle.rly_journal.proofs.Inlining.{elsewhere_still}
 use Rattle.rly_journal.proofs.Counted.{drawing_reads, drawn_counts, renewing_syncs, two_tried, unheaded_made}
 use Rattle.rly_journal.proofs.Reading.{broken_sound, IsGoing, leaves_durable, leaves_read, sound_read}
 use Rattle.rly_journal.proofs.Tagging.{apart_elsewhere, moved_tagged, same_at, standing_at, standing_there, tagged_free, written_there}
 use Rattle.rly_journal.proofs.Opening.{shown_length, shown_whole}
 use Rattle.rly_disk.proofs.Making.{makes_later, makes_leaves, makes_seen, makes_settled, reads_quiet, synced_behind}
-use Rattle.rly_standing.proofs.Following.{front_all, only_front}
+use Rattle.rly_journal.proofs.Following.{front_all, only_front}
 use Rattle.rly_journal.specs.HelpersRounds.{IsRenewing}
-use Rattle.rly_standing.specs.Standing.{state_in as standing_state, Standing, IsStanding, Stands}
-use Rattle.rly_journal.specs.declared.tail.RenewFault.TheVariants as fault
+use Rattle.rly_journal.specs.Recovery.{state_in as standing_state, Recovery, IsRecovery, Stands}
+use Rattle.rly_journal.specs.declared.next_segment.RenewFault.TheVariants as fault
 
--- ---- what was chosen, on a disk of so many bytes, and what was drawn
+-- ---- the choice, on a disk of this size, and the copy
 
 pub record IsChosen (size : ℕ) (tail : Tail) (places : State Stored) (target victim : ℕ) : Type 0 where
   pub layout : IsLayout tail.geometry size
@@ -50,80 +50,80 @@ pub record IsChosen (size : ℕ) (tail : Tail) (places : State Stored) (target v
 
 pub record IsDrawn (disk : DiskState) (tail : Tail) (r : Renewal) : Type 0 where
   pub chosen : IsChosen disk.size tail r.places r.target r.victim
-  pub copy : IsSameButForBytes r.copy (drawn_state tail.geometry r.victim unread r.places)
-  pub bytes : disk.honest → r.copy ≡ drawn_state tail.geometry r.victim (bytes_at disk.seen) r.places
+  pub copy : IsSameButForBytes r.copy (collected_state tail.geometry r.victim zeros_at r.places)
+  pub bytes : disk.honest → r.copy ≡ collected_state tail.geometry r.victim (bytes_at disk.seen) r.places
 
 module _ {size : ℕ} {tail : Tail} {places : State Stored} {target victim : ℕ} (chosen : IsChosen size tail places target victim) where
   pub victim_there : victim < tail.geometry.segments
   victim_there = omega (arith, chosen.moves.there, live_length tail.geometry places)
 
-  -- whatever is drawn has its payloads by place elsewhere
-  drawn_placed : (read : Place → List ℕ) → IsPlaced tail.geometry target (drawn_state tail.geometry victim read places)
+  -- the payloads by device address of the copy lie in other segments
+  drawn_placed : (read : DeviceAddress → List ℕ) → IsPlaced tail.geometry target (collected_state tail.geometry victim read places)
   drawn_placed read =
-      let copy : State Stored = drawn_state tail.geometry victim read places in
+      let copy : State Stored = collected_state tail.geometry victim read places in
       let elsewhere : All (LiesElsewhere tail.geometry target) (payloads_of copy) =
       λ k d lt. apart_elsewhere tail.geometry target _ (drawn_all_apart tail.geometry target victim places chosen.may read k d lt) in
       let may = may_open tail.geometry target victim copy victim_there chosen.may.other (drawn_empty tail.geometry victim read places) in
       record { elsewhere = elsewhere; left = (victim, holds_none tail.geometry target victim copy elsewhere may) }
 
--- ---- what the head may hold
+-- ---- the content of the head
 
 module _ {disk : DiskState} {tail : Tail} {r : Renewal} (d : IsDrawn disk tail r) where
   abbrev zeros : State Stored
-  zeros = drawn_state tail.geometry r.victim unread r.places
+  zeros = collected_state tail.geometry r.victim zeros_at r.places
 
   pub copy_sound : IsSound stored_length r.copy
-  copy_sound = same_sound zeros r.copy (sym d.copy) (drawn_sound tail.geometry r.victim unread r.places (λ p. length-replicate p.length 0) d.chosen.sound)
+  copy_sound = same_sound zeros r.copy (sym d.copy) (drawn_sound tail.geometry r.victim zeros_at r.places (λ p. length-replicate p.length 0) d.chosen.sound)
 
-  -- it has as many bytes inline as the victim had
+  -- it has as many inline bytes as the victim had
   pub copy_head : IsHeadOf stored_length stored_form tail.geometry r.target (tail.generation + 1) r.copy
   copy_head =
       let params : r.copy.params ≡ tail.geometry.params = ap (λ (t : State Stored). t.params) d.copy ∙ d.chosen.params in
-      let drawn = drawn_inline tail.geometry r.victim unread r.places (λ p. length-replicate p.length 0) in
-      let room = d.chosen.room.head r.copy copy_sound params (omega (arith, same_inline r.copy zeros d.copy, drawn, d.chosen.may.inline)) in
+      let collected_payload = drawn_inline tail.geometry r.victim zeros_at r.places (λ p. length-replicate p.length 0) in
+      let room = d.chosen.room.head r.copy copy_sound params (omega (arith, same_inline r.copy zeros d.copy, collected_payload, d.chosen.may.inline)) in
       search (arith, params, d.chosen.few, ap (λ (t : State Stored). t.seq) d.copy, room)
 
   pub copy_forms : All (HaveForms (IsStorable Second)) r.copy.hops
   copy_forms = same_storable Second zeros r.copy (sym d.copy) (drawn_storable Second _ disk.size r.victim r.places d.chosen.layout d.chosen.may.lies)
 
-  -- ---- where the journal ends then
+  -- ---- the end of the journal after it
 
-  pub renew_room : IsFull (renewed tail r) → ⊥
+  pub renew_room : IsFull (tail_after_renewal tail r) → ⊥
   renew_room full = omega (arith, copy_head.room, full)
 
-  pub renew_shape : {new : ℕ} {y : IndexState} → new ≡ disk.size → y.spool.state ≡ moved_state tail.geometry r.target r.victim r.places
-      → IsShaped new (renewed tail r) y
+  pub renew_shape : {new : ℕ} {y : IndexState} → new ≡ disk.size → y.spool.state ≡ relocated_state tail.geometry r.target r.victim r.places
+      → IsShaped new (tail_after_renewal tail r) y
   renew_shape same moved =
-      let full = λ (full : IsFull (renewed tail r)). absurd {A = tail.generation + 1 ≤ r.places.seq} (renew_room full) in
+      let full = λ (full : IsFull (tail_after_renewal tail r)). absurd {A = tail.generation + 1 ≤ r.places.seq} (renew_room full) in
       rw (same, moved) (search (arith, d.chosen, d.chosen.may.there, copy_head.room, full))
 
--- ---- the segment as it is told
+-- ---- the segment in the clauses
 
--- where the payloads weren't read, it is told with what the image shows
+-- if the payloads weren't read, it has those of the image
 module _ {disk : DiskState} {tail : Tail} {places : State Stored} {target victim : ℕ} (facts : disk.honest → Consistent disk)
     (chosen : IsChosen disk.size tail places target victim) where
-  abbrev shown : Place → List ℕ
+  abbrev shown : DeviceAddress → List ℕ
   shown place = shown_in disk.seen (Placed place)
 
-  shown_blank : (p : Stored) → blank (drawn tail.geometry victim shown p) ≡ blank (drawn tail.geometry victim unread p)
+  shown_blank : (p : Stored) → blank_payload (collected_payload tail.geometry victim shown p) ≡ blank_payload (collected_payload tail.geometry victim zeros_at p)
   shown_blank (Inline payload) = refl
   shown_blank (Placed place) = let long = shown_length disk.seen (Placed place) in grind (arith, length-replicate {A = ℕ})
 
-  shown_read : disk.honest → (p : Stored) → LiesThere tail.geometry p → drawn tail.geometry victim shown p ≡ drawn tail.geometry victim (bytes_at disk.seen) p
+  shown_read : disk.honest → (p : Stored) → LiesThere tail.geometry p → collected_payload tail.geometry victim shown p ≡ collected_payload tail.geometry victim (bytes_at disk.seen) p
   shown_read honest p lies =
       let long : device_length tail.geometry ≤ length disk.seen = omega (arith, chosen.layout.room, (facts honest).seen_size) in
       let same = shown_whole disk.seen p (whole disk.seen tail.geometry long p lies) in grind arith
 
-  pub undrawn : IsDrawn disk tail (record { places = places; target = target; victim = victim; copy = drawn_state tail.geometry victim shown places })
+  pub undrawn : IsDrawn disk tail (record { places = places; target = target; victim = victim; copy = collected_state tail.geometry victim shown places })
   undrawn = record {
     chosen = chosen;
-    copy = state_twice blank _ places ∙ maps_same _ _ shown_blank places ∙ sym (state_twice blank _ places);
+    copy = state_twice blank_payload _ places ∙ maps_same _ _ shown_blank places ∙ sym (state_twice blank_payload _ places);
     bytes = λ honest. maps_held _ _ places (λ k e lt. shown_read honest _ (chosen.may.lies k e lt));
   }
 
 -- ---- reads before other calls
 
--- a crash within reads and what is made after them
+-- a crash within reads and the calls after them
 reads_then : (reads rest : List DeviceEvent) → are_reads reads ≡ true → (seen : List ℕ) (I : List ℕ → Type 0) (c : List ℕ)
     → images_within (reads ++ rest) seen I c → I c ⊎ images_within rest seen I c
 reads_then [] rest only seen I c image = inr image
@@ -133,7 +133,7 @@ reads_seen : (reads rest : List DeviceEvent) → are_reads reads ≡ true → (s
 reads_seen [] rest only seen = refl
 reads_seen (call ∷ reads) rest only seen = let more = λ (read : are_reads reads ≡ true). reads_seen reads rest read seen in grind (arith, more)
 
--- ---- what is read once the head was written, and where the journal ends then
+-- ---- the content after the head was written, and the end of the journal
 
 module _ {disk : DiskState} {tail : Tail} {s : State (List ℕ)} {r : Renewal} (d : IsDrawn disk tail r)
     (renewal : IsRenewal disk tail s r) (durable : IsDurable disk tail s) where
@@ -144,12 +144,12 @@ module _ {disk : DiskState} {tail : Tail} {s : State (List ℕ)} {r : Renewal} (
   opened = opened_spelled stored_length stored_form (tail.generation + 1) r.copy
 
   abbrev new : List ℕ
-  new = seen_at_end (renewing tail r) disk.seen
+  new = seen_at_end (renewal_calls tail r) disk.seen
 
-  abbrev x : Standing
+  abbrev x : Recovery
   x = standing_at tail durable.logged.x
 
-  abbrev y : Standing
+  abbrev y : Recovery
   y = with_head x r.target r.copy (state_in new r.copy)
 
   written : SameOutside place tail.geometry.length disk.seen new × StandsAt new place opened
@@ -159,13 +159,13 @@ module _ {disk : DiskState} {tail : Tail} {s : State (List ℕ)} {r : Renewal} (
       omega (arith, length-append text (0 ∷ []), length-spelled stored_length stored_form (tail.generation + 1) r.copy) in
       let within = segment_within tail.geometry r.target disk.size d.chosen.layout d.chosen.may.there in
       let fits : place + length opened ≤ length disk.seen = omega (arith, within, count, (copy_head d).room, durable.settled.consistent.seen_size) in
-      let same : new ≡ overwritten place opened disk.seen =
-      reads_seen (drawing_for tail r) (heading tail r) (drawing_reads tail r) disk.seen
+      let same : new ≡ bytes_after_write place opened disk.seen =
+      reads_seen (victim_reads_for tail r) (head_calls tail r) (drawing_reads tail r) disk.seen
       ∙ end_of_opening stored_length stored_form tail.geometry r.target (tail.generation + 1) r.copy _ disk.seen (omega (arith, fits, count)) in
       let there = written_there place opened same fits in
       (wider place tail.geometry.length place (length opened) (omega arith) (omega (arith, count, (copy_head d).room)) there.0, there.1)
 
-  there : IsStanding disk.seen x
+  there : IsRecovery disk.seen x
   there = standing_there durable.logged
 
   state : s ≡ standing_state x
@@ -177,12 +177,12 @@ module _ {disk : DiskState} {tail : Tail} {s : State (List ℕ)} {r : Renewal} (
   same : state_in disk.seen r.copy ≡ s
   same = rw (d.bytes durable.settled.honest) (drawn_stands tail.geometry r.victim disk.seen r.places ∙ renewal.kept.bytes durable.settled.honest)
 
-  grown : IsStanding new y
+  grown : IsRecovery new y
   grown =
       opened_with x r.target r.copy (state_in new r.copy) there d.chosen.may.there d.chosen.free.may_open.other (copy_sound d) (copy_head d) placed
       (omega (arith, d.chosen.few, d.chosen.sound.seq)) refl written.0 written.1
 
-  pub renewed_logged : length tail.closed ≡ 256 → IsLogged new (renewed tail r) s
+  pub renewed_logged : length tail.closed ≡ 256 → IsLogged new (tail_after_renewal tail r) s
   renewed_logged wide = record {
     x = y;
     stands = grown;
@@ -199,12 +199,12 @@ module _ {disk : DiskState} {tail : Tail} {s : State (List ℕ)} {r : Renewal} (
     ];
   }
 
-  -- what is read is the new head, which has the payloads where the index has them
-  pub renewed_tagged : IsTaggedIn new (moved_state tail.geometry r.target r.victim r.places)
+  -- the content has the new head, with the payloads at the addresses of the index
+  pub renewed_tagged : IsTaggedIn new (relocated_state tail.geometry r.target r.victim r.places)
   renewed_tagged z reads = rw (← standing_once y z grown reads) (moved_tagged tail.geometry r.target r.victim r.places r.copy d.chosen.may d.copy)
 
-  -- and the index stands for what it stood for
-  pub renewed_bytes : state_in new (moved_state tail.geometry r.target r.victim r.places) ≡ s
+  -- and the index recovers to the same state as before
+  pub renewed_bytes : state_in new (relocated_state tail.geometry r.target r.victim r.places) ≡ s
   renewed_bytes =
       opened_stands tail.geometry r.target r.victim r.places d.chosen.may disk.seen new (tail.generation + 1) r.copy (d.bytes durable.settled.honest)
       (same_moved tail.geometry r.target r.victim r.places r.copy d.copy) grown.scanned.head.head written.0 ∙ renewal.kept.bytes durable.settled.honest
@@ -218,13 +218,13 @@ module _ {disk : DiskState} {tail : Tail} {s : State (List ℕ)} {r : Renewal} (
   may_renew wide = record { head = λ z stands. rw (← standing_once x z there stands) may_write; logged = renewed_logged wide; room = renew_room d }
 
   -- a crash at any moment
-  pub crash : (c : List ℕ) → images_within (renewing tail r) disk.seen (λ i. i ≡ disk.seen) c → Stands c s
+  pub crash : (c : List ℕ) → images_within (renewal_calls tail r) disk.seen (λ i. i ≡ disk.seen) c → Stands c s
   crash c image =
       ⊎_elim (λ before. rw before (durable.logged.x, durable.logged.stands, durable.logged.state))
       (λ within. rw state (opening_law disk.seen c x r.target r.copy there may_write
       (image_of_opening stored_length stored_form tail.geometry r.target (tail.generation + 1) r.copy _ disk.seen c
       (rw durable.settled.consistent.seen_size d.chosen.layout) d.chosen.may.there (copy_head d) (durable.logged.gates r.target d.chosen.may.there) within)))
-      (reads_then (drawing_for tail r) (heading tail r) (drawing_reads tail r) disk.seen (λ i. i ≡ disk.seen) c image)
+      (reads_then (victim_reads_for tail r) (head_calls tail r) (drawing_reads tail r) disk.seen (λ i. i ≡ disk.seen) c image)
 
 -- ---- a segment that is due may be opened so
 
@@ -241,16 +241,16 @@ renewing_law {state = state} {j} here sound wide honest full r renewal =
     let may = may_move g j.tail.segment r.target r.victim r.places layout.segments layout.fits sound_places params renewal.target renewal.victim
     renewal.inline renewal.there in
     let room = has_room_for g r.places j.tail.segment r.target r.victim layout.segments layout.fits sound_places params renewal.target renewal.victim in
-    let drawn : IsDrawn (state j.disk) j.tail r = search (layout, sound_places, params, few, may, room, renewal, renewal.bytes) in
-    may_renew drawn renewal (here.durable honest) wide
+    let collected_payload : IsDrawn (state j.disk) j.tail r = search (layout, sound_places, params, few, may, room, renewal, renewal.bytes) in
+    may_renew collected_payload renewal (here.durable honest) wide
 
--- ---- what making room for a round came to: nothing was due; or the next segment was, and was opened or not
+-- ---- the results of making room for a round: no segment was due; or the next one was, and was opened or not
 
--- nothing was due
+-- no segment was due
 pub calm_ready : {A D : Type 0} {done : A} {state : D → DiskState} {old : JournalState D} {x : IndexState} {calls : List Call} → IsGoing state old x
     → (IsDueFor old calls → ⊥) → IsReadied state old old calls (Ok done)
 calm_ready {state = state} {old} {calls = calls} j none =
-    let ready : IsReady state old old calls = record {
+    let ready : HasOpenedIfDue state old old calls = record {
       opened = None;
       renewal = tt;
       due = λ some. cc;
@@ -271,55 +271,55 @@ module _ {D : Type 0} {state : D → DiskState} {a : D} {tail : Tail} {x : Index
 
   renewal : IsRenewal (state a) tail s r
   renewal =
-      -- what the device reads has no live payload where there is none by the index
-      let free : (state a).honest → (z : Standing) → IsStanding (state a).seen z → All (LiesElsewhere z.geometry target) (payloads_of (stored_in z)) =
+      -- the device has no live payload in a segment if the index has none
+      let free : (state a).honest → (z : Recovery) → IsRecovery (state a).seen z → All (LiesElsewhere z.geometry target) (payloads_of (stored_in z)) =
       λ honest z stands. let there = standing_there (sound.durable refl honest).logged in
       rw (← standing_once _ z there stands)
       (tagged_free _ r.places target there.scanned (sound.tagged refl honest _ there) d.chosen.free.may_open.other d.chosen.may.empty) in
       search (sound.kept refl, d, d.bytes, free)
 
   -- some of the victim's payloads were read, or all of them
-  only_kept : {b : D} {whole : Bool} → MakesFront state (drawing_for tail r) whole a b → IsSoundJournal (state b) tail x s position false
+  only_kept : {b : D} {whole : Bool} → MakesFront state (victim_reads_for tail r) whole a b → IsSoundJournal (state b) tail x s position false
       × ((state a).honest → LeavesOnly (state a) (state b) (λ image. Stands image s)) × ((state b).syncs ≤ (state a).syncs + 3)
   only_kept made =
-      let only = only_front state facts (reads_quiet (drawing_for tail r) (drawing_reads tail r)) made in
+      let only = only_front state facts (reads_quiet (victim_reads_for tail r) (drawing_reads tail r)) made in
       (sound_read only sound, (λ honest. leaves_read (leaves_durable (sound.durable refl honest)) only honest), (drawn_counts state tail r made).1)
 
-  leaves : {b : D} {done : Bool} → Makes state (renewing tail r) done a b → (state a).honest → LeavesOnly (state a) (state b) (λ image. Stands image s)
+  leaves : {b : D} {done : Bool} → Makes state (renewal_calls tail r) done a b → (state a).honest → LeavesOnly (state a) (state b) (λ image. Stands image s)
   leaves made honest =
       let durable = sound.durable refl honest in makes_leaves state (λ image. Stands image s) made durable.settled (crash d renewal durable)
 
   module _ {A : Type 0} {b : D} {calls : List Call} (due : (holds_command calls ≡ true) × IsFull tail) where
-    -- no memory was left for its head, or for what it holds
-    pub starved : MakesFront state (drawing_for tail r) true a b → IsRenewing {A = A} state tail tail x s position calls (Err fault.OutOfMemory) a b
+    -- the allocation for its head, or for the copy, failed
+    pub starved : MakesFront state (victim_reads_for tail r) true a b → IsRenewing {A = A} state tail tail x s position calls (Err fault.OutOfMemory) a b
     starved made =
         let kept = only_kept made in search (arith, inl, due, renewal, made, kept.0, kept.1, kept.2, makes_later state made.makes)
 
     -- a read of them failed
-    pub unread_front : Makes state (drawing_for tail r) false a b → IsRenewing {A = A} state tail tail x s position calls (Err fault.Read) a b
+    pub unread_front : Makes state (victim_reads_for tail r) false a b → IsRenewing {A = A} state tail tail x s position calls (Err fault.Read) a b
     unread_front made =
         let kept = only_kept (front_all state made) in search (arith, inl, inr, due, renewal, made, kept.0, kept.1, kept.2, makes_later state made)
 
     -- its head wasn't written
-    pub headless : Tries state (unheaded tail r) a b → IsRenewing {A = A} state tail tail x s position calls (Err fault.Device) a b
+    pub headless : Tries state (failed_head_tries tail r) a b → IsRenewing {A = A} state tail tail x s position calls (Err fault.Device) a b
     headless tries =
         let made = unheaded_made state tail r tries in
         let kept : IsSoundJournal (state b) tail x s position true = broken_sound (rw (makes_later state made).size sound.shaped) sound.alike in
         search (arith, inr, due, renewal, tries, kept, leaves made, renewing_syncs state tail r made, makes_later state made)
 
     -- it was opened
-    pub opened_renewing : {done : A} {end : Tail} {y : IndexState} → Makes state (renewing tail r) true a b → end ≡ renewed tail r
-        → y.spool.state ≡ moved_state tail.geometry target victim x.spool.state → IsAtEnd end y → length tail.closed ≡ 256
+    pub opened_renewing : {done : A} {end : Tail} {y : IndexState} → Makes state (renewal_calls tail r) true a b → end ≡ tail_after_renewal tail r
+        → y.spool.state ≡ relocated_state tail.geometry target victim x.spool.state → IsAtEnd end y → length tail.closed ≡ 256
         → IsRenewing state tail end y s position calls (Ok done) a b
     opened_renewing {end = end} {y} made is moved ends wide =
         let later = makes_later state made in
         let seen = λ (honest : (state b).honest). makes_seen state made (later.honest.0 honest) in
         let before = λ (honest : (state b).honest). sound.durable refl (later.honest.0 honest) in
-        let synced = synced_behind (drawing_for tail r) (heading tail r) (replacing_synced (segment_place tail.geometry target) _ _) in
+        let synced = synced_behind (victim_reads_for tail r) (head_calls tail r) (replacing_synced (segment_place tail.geometry target) _ _) in
         let room = λ (again : (holds_command calls ≡ true) × IsFull end). renew_room d (rw is at again.1) in
         let alike : IsAlike y.spool.state s = rw moved (moved_lengths tail.geometry target victim x.spool.state d.chosen.may ∙ sound.alike) in
-        let kept : IsKept (state b) y.spool.state s = record { alike = alike; bytes = λ h. rw (moved, seen h) (renewed_bytes d renewal (before h)) } in
-        let ready : IsReady state (record { disk = a; tail = tail; state = s; position = position; broken = false })
+        let kept : StandsForBytes (state b) y.spool.state s = record { alike = alike; bytes = λ h. rw (moved, seen h) (renewed_bytes d renewal (before h)) } in
+        let ready : HasOpenedIfDue state (record { disk = a; tail = tail; state = s; position = position; broken = false })
         (record { disk = b; tail = end; state = s; position = position; broken = false }) calls = record {
           opened = Some r;
           renewal = renewal;
@@ -327,7 +327,7 @@ module _ {D : Type 0} {state : D → DiskState} {a : D} {tail : Tail} {x : Index
           unless = λ none. cc;
           calm = λ none. absurd (none due);
           next = λ _. ap (λ (t : Tail). t.generation) is;
-          logs = λ commands whole last logged. two_tried state (renewing tail r) _ whole made (rw is at logged);
+          logs = λ commands whole last logged. two_tried state (renewal_calls tail r) _ whole made (rw is at logged);
         } in
         let shaped : IsShaped (state b).size end y = rw is (renew_shape d later.size moved) in
         let durable : (state b).honest → IsDurable (state b) end s = λ honest.

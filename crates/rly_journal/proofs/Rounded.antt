@@ -1,18 +1,18 @@
--- What a round came to: room was made for its calls or not, and then they were served, which ends in one of three ways.
-use Rattle.rly_journal.proofs.Common.{[], accepted_of, all_reads, Answer, ap, appending, AreAnswersOf, AreLostWhereWanted, AreServed, arith, Call, cases_Bool}
-use Rattle.rly_journal.proofs.Common.{Commands, DeviceRead, DiskState, eqb, Err, false, fetching, fold, front_all, group_body, GroupState, IndexState, inl, inr}
-use Rattle.rly_journal.proofs.Common.{IsKept, IsReadied, IsReady, IsSameHead, IsServed, joined, Later, later_again, LeavesOnly, length, List, logging, Makes}
+-- The results of a round: room was made for its calls or not, and then they were served, with one of three ends.
+use Rattle.rly_journal.proofs.Common.{[], accepted_of, all_reads, Answer, ap, append_calls, AreAnswersOf, AreLostWhereWanted, AreServed, arith, Call, cases_Bool}
+use Rattle.rly_journal.proofs.Common.{Commands, DeviceRead, DiskState, eqb, Err, false, fetch_tries, fold, front_all, group_body, GroupState, IndexState, inl, inr}
+use Rattle.rly_journal.proofs.Common.{StandsForBytes, IsReadied, HasOpenedIfDue, IsSameHead, IsServed, joined, Later, later_again, LeavesOnly, length, List, log_calls, Makes}
 use Rattle.rly_journal.proofs.Common.{makes_failed, makes_later, makes_syncs, map, next_state, not, nothing_tried, Ok, OnlyRead, Outcome, OutOfMemory}
-use Rattle.rly_journal.proofs.Common.{placed_group, refl, Refusal, refusal_of, refusals, Refused, refused_as, rose_earlier, rose_later, rounding, Stands, State}
+use Rattle.rly_journal.proofs.Common.{placed_group, refl, Refusal, refusal_of, refusals, Refused, refused_as, rose_earlier, rose_later, round_tries, Stands, State}
 use Rattle.rly_journal.proofs.Common.{stored_length, sym, Tail, taken_of, tried_syncs, Tries, tries_joined, tries_later, true, Unsure, weaker, zip, ℕ, ⊎_elim}
 use Rattle.rly_journal.proofs.Common.{◌++◌, ◌+◌, ◌∙◌, ◌∷◌, ◌≡◌, ◌≤◌, ◌⊎◌}
 use Rattle.rly_journal.specs.Journal.{IsSafe, Breaks, Goes, IsShut, IsDueFor, IsRound, JournalState, MakesRound, MakesShut, OnlyReadsFailed}
 use Rattle.rly_journal.proofs.Reading.{leaves_read}
 use Rattle.rly_journal.proofs.Serving.{IsServing, alike_front, came, crash_group, logging_group}
-use Rattle.rly_journal.proofs.Telling.{granted_each, refused_each, told_each, told_served}
+use Rattle.rly_journal.proofs.EvaluatedAnswers.{granted_each, refused_each, told_each, told_served}
 use Rattle.rly_journal.proofs.Counted.{drawn_counts, logging_sound, round_alone, unheaded_made}
 
--- where all calls are refused for another reason, none is lost
+-- if all calls are refused for another reason, none is lost
 module _ (refusal : Refusal) (position : ℕ) (memory : Refused refusal ≡ Refused OutOfMemory → ⊥) (device : Refused refusal ≡ Refused DeviceRead → ⊥) where
   pub refused_unlost : (s : State (List ℕ)) (calls : List Call) → AreLostWhereWanted s (zip calls (refusals refusal position calls))
   refused_unlost s [] = tt
@@ -24,13 +24,13 @@ module _ {D : Type 0} {state : D → DiskState} {old : JournalState D} {x y : In
   abbrev commands : Commands
   commands = taken_of (zip calls outcomes)
 
-  -- what was accepted is logged, and then the payloads are read
-  pub served : {mid b : D} {end : Tail} {gate counted : ℕ} {before after : List Answer} → Makes state (logging old.tail.gate commands) true old.disk mid
+  -- the accepted commands are logged, and then the payloads are read
+  pub served : {mid b : D} {end : Tail} {gate counted : ℕ} {before after : List Answer} → Makes state (log_calls old.tail.gate commands) true old.disk mid
       → ((front back : Commands) → commands ≡ front ++ back
-      → IsKept (state mid) (fold stored_length x.spool.state (placed_group old.tail.gate front)) (fold length old.state front))
+      → StandsForBytes (state mid) (fold stored_length x.spool.state (placed_group old.tail.gate front)) (fold length old.state front))
       → ((state old.disk).honest → LeavesOnly (state old.disk) (state mid) (λ image. Stands image old.state ⊎ Stands image now))
       → end ≡ record old.tail { gate = gate } → counted ≡ now.seq → OnlyRead (state mid) (state b)
-      → (given : List Answer) × (after ≡ before ++ given) × AreAnswersOf (state mid) outcomes given × Tries state (fetching outcomes given) mid b
+      → (given : List Answer) × (after ≡ before ++ given) × AreAnswersOf (state mid) outcomes given × Tries state (fetch_tries outcomes given) mid b
       → IsServed state old (record old { disk = b; tail = end; state = now; position = counted }) calls before after
   served {mid} {end = end} made kept logged is counts only answered =
       let all =
@@ -44,7 +44,7 @@ module _ {D : Type 0} {state : D → DiskState} {old : JournalState D} {x y : In
       rw e.going.whole (search (arith, answered.1, counts, served, recorded, all, all_reads outcomes answered.0, makes, answered.3, head, leaves))
 
   -- a write or a sync of it failed
-  module _ (some : eqb group.count 0 ≡ false) {b : D} (made : Makes state (appending old.tail.gate (group_body group)) false old.disk b) where
+  module _ (some : eqb group.count 0 ≡ false) {b : D} (made : Makes state (append_calls old.tail.gate (group_body group)) false old.disk b) where
     pub failed_served : {end : Tail} {before after : List Answer} → end ≡ old.tail → after ≡ before ++ map (refused_as Unsure old.position) outcomes
         → IsServed state old (record old { disk = b; tail = end; state = now; broken = true }) calls before after
     failed_served {end = end} is told =
@@ -57,7 +57,7 @@ module _ {D : Type 0} {state : D → DiskState} {old : JournalState D} {x y : In
 
 -- ---- a round in two steps: making room, and serving its calls
 
--- all that a round of a journal that isn't broken came to
+-- all effects of a round on a journal that isn't broken
 pub record IsRounded {D : Type 0} (state : D → DiskState) (old new : JournalState D) (calls : List Call) (before after : List Answer) : Type 0 where
   pub answers : (given : List Answer) × (after ≡ before ++ given) × IsRound state old new calls given
   pub lost : (given : List Answer) × (after ≡ before ++ given) × (AreLostWhereWanted old.state (zip calls given) ⊎ IsShut old new calls given)
@@ -74,26 +74,26 @@ pub record IsRounded {D : Type 0} (state : D → DiskState) (old new : JournalSt
 -- room was made, and then the calls were served
 module _ {A D : Type 0} {state : D → DiskState} {old mid new : JournalState D} {calls : List Call} {before after : List Answer} {done : A}
     (whole : old.broken ≡ false) (room : IsReadied state old mid calls (Ok done)) (served : IsServed state mid new calls before after) where
-  abbrev ready : IsReady state old mid calls
+  abbrev ready : HasOpenedIfDue state old mid calls
   ready = room.came.2
 
   abbrev taken : Commands
   taken = accepted_of (zip calls served.given)
 
-  -- what was served over its disk was served over the one before, which is honest only where that is
+  -- calls served over its disk were served over the one before, which is honest only if that is
   served_there : AreServed (state old.disk) calls served.given old.state new.state
   served_there = rw (← room.same) (search (served.served, served.served.exact, room.later.honest.1))
 
   few_syncs : (state new.disk).syncs ≤ (state mid.disk).syncs + 2
   few_syncs = omega (arith, makes_syncs state served.makes, logging_sound mid.tail.gate taken, tried_syncs state served.fetches served.tries served.reads)
 
-  all_made : Tries state (rounding old.tail ready.opened taken (not new.broken) ++ served.fetches) old.disk new.disk
+  all_made : Tries state (round_tries old.tail ready.opened taken (not new.broken) ++ served.fetches) old.disk new.disk
   all_made = tries_joined state _ served.fetches (ready.logs taken (not new.broken) served.mid served.makes) served.tries
 
   wanted : AreLostWhereWanted old.state (zip calls served.given)
   wanted = rw (← room.same) served.wanted
 
-  -- what it answers
+  -- its replies
   round_came : (given : List Answer) × (after ≡ before ++ given) × IsRound state old new calls given × AreLostWhereWanted old.state (zip calls given)
   round_came = elim (cases_Bool new.broken) [
     | inl broken ↦
@@ -127,12 +127,12 @@ module _ {A D : Type 0} {state : D → DiskState} {old mid new : JournalState D}
     later = later_again room.later (later_again (makes_later state served.makes) (tries_later state served.fetches served.tries));
   }
 
--- calls that are all refused memory
+-- calls that are all refused for a failed allocation
 starved : (disk : DiskState) (s : State (List ℕ)) (calls : List Call) → AreServed disk calls (refusals OutOfMemory s.seq calls) s s
 starved disk s [] = record { count = refl; legal = tt; exact = λ _. tt; only = tt; state = refl }
 starved disk s (call ∷ calls) = let rest = starved disk s calls in grind (arith, rest.count, rest.legal, rest.exact, rest.only, rest.state)
 
--- no segment was opened where one was due, and all calls were refused
+-- no segment was opened although one was due, and all calls were refused
 module _ {A D : Type 0} {state : D → DiskState} {old new : JournalState D} {calls : List Call} {refusal : Refusal} (whole : old.broken ≡ false)
     (shut : IsReadied {A = A} state old new calls (Err refusal)) where
   abbrev given : List Answer
@@ -141,7 +141,7 @@ module _ {A D : Type 0} {state : D → DiskState} {old new : JournalState D} {ca
   abbrev makes : MakesShut state old new calls refusal
   makes = shut.came.1
 
-  -- the journal goes on, or it is broken
+  -- the journal isn't broken, or it is
   shut_came : IsRound state old new calls given × (AreLostWhereWanted old.state (zip calls given) ⊎ IsShut old new calls given)
       × (new.broken ≡ false → IsShut old new calls given)
   shut_came = elim makes.makes [

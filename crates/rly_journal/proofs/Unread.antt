@@ -1,8 +1,8 @@
--- A call is told that a read failed only where one did, in its round.
+-- A reply reports a failed read only if one failed in its round.
 use Rattle.rly_journal.proofs.Common.{[], Answer, ap, are_reads, AreFetches, AreFetching, AreLostWhereWanted, AreReadsOf, AreTried, AreUnreadWhere, arith, Bool}
-use Rattle.rly_journal.proofs.Common.{Broken, Bytes, Call, count_joined, DeviceEvent, DeviceRead, DiskState, drawing_for, Entry, false, fetch_reply, HasBytes}
+use Rattle.rly_journal.proofs.Common.{Broken, Bytes, Call, count_joined, DeviceEvent, DeviceRead, DiskState, victim_reads_for, Entry, false, fetch_reply, HasBytes}
 use Rattle.rly_journal.proofs.Common.{HasFailedRead, inl, inr, is_spent, IsRound, item_of, JournalState, Later, List, MakesRound, MakesShut, MayWantBytes}
-use Rattle.rly_journal.proofs.Common.{nat_tests, next_state, reads_sound, refl, Refusal, refusals, Refused, Reply, rounding, row_of, row_tried, State, Tries}
+use Rattle.rly_journal.proofs.Common.{nat_tests, next_state, reads_sound, refl, Refusal, refusals, Refused, Reply, round_tries, row_of, row_tried, State, Tries}
 use Rattle.rly_journal.proofs.Common.{true, Try, Unsure, zip, ℕ, ◌++◌, ◌∙◌, ◌∷◌, ◌≡◌, ◌⊎◌}
 use Rattle.rly_machine.specs.declared.command.Ask.{Ask}
 use Rattle.rly_machine.specs.declared.command.Ask.TheVariants as ask
@@ -10,14 +10,14 @@ use Rattle.rly_machine.specs.declared.command.Query.TheVariants.{Fetch}
 use Rattle.rly_journal.proofs.Counted.{IsUnread, drawing_reads, row_alone}
 use Rattle.rly_journal.proofs.Reading.{row_read}
 
--- a rise is seen from an earlier state, and at a later one
+-- a rise is also one from an earlier state, and to a later one
 pub unread_earlier : {a b : DiskState} (e : DiskState) → Later a b → HasFailedRead b e → HasFailedRead a e
 unread_earlier e first rose = grind (arith, first.failed_reads)
 
 pub unread_later : (a : DiskState) {b e : DiskState} → HasFailedRead a b → Later b e → HasFailedRead a e
 unread_later a rose second = grind (arith, second.failed_reads, second.calls)
 
--- ---- rows of which one is of reads and was cut
+-- ---- lists of calls, one of which has only reads and was cut
 
 abbrev HasCut : List Try → Type 0
 HasCut [] = ⊥
@@ -39,7 +39,7 @@ fetch_cut : (reply : Reply) (rows rest : List Try) → HasBytes reply → AreFet
 fetch_cut (Bytes payload limit) rows rest has fetching = rw fetching.2 (inl (refl, row_read fetching.0 (Refused DeviceRead)))
 fetch_cut reply rows rest has fetching = absurd has
 
--- an ask that 13 may be answered to is a Fetch
+-- a request that may get the reply 13 is a Fetch
 ask_cut : (s : State (List ℕ)) (a : Ask) (rows rest : List Try) → MayWantBytes s a → AreReadsOf s a (Refused DeviceRead) rows → HasCut (rows ++ rest)
 ask_cut s (ask.Command command) rows rest may reads = absurd may
 ask_cut s (ask.Query (Fetch hop number)) rows rest may reads = fetch_cut (fetch_reply (item_of s hop number)) rows rest may reads
@@ -69,7 +69,7 @@ module _ {D : Type 0} (state : D → DiskState) (old new : JournalState D) (call
       let unread = cut_unread (is_spent (state new.disk)) rows tries.events tries.tried cut in
       let counted = tries.leads.failed_reads in grind (arith, nat_tests)
 
-  -- calls that were served, or refused where no segment was opened
+  -- calls that were served, or refused because no segment was opened
   abbrev Traced : List Answer → Type 0
   Traced given =
       MakesRound state old new calls [] given
@@ -78,10 +78,10 @@ module _ {D : Type 0} (state : D → DiskState) (old new : JournalState D) (call
   traced : (given : List Answer) → new.broken ≡ false → Traced given → AreUnreadWhere Unread (zip calls given)
   traced given whole (inl made) =
       rw (made.told whole) (entries_cut Unread old.state (zip calls made.given) made.fetches made.wanted (made.read whole)
-      (λ cut. tried_unread _ made.makes (cut_behind (rounding old.tail made.opened _ _) made.fetches cut)))
+      (λ cut. tried_unread _ made.makes (cut_behind (round_tries old.tail made.opened _ _) made.fetches cut)))
   traced given whole (inr none) = rw none.2 (refused_where Unread none.1 old.position calls (λ same. elim none.3.makes [
     | inl memory ↦ cc memory.0
-    | inr (inl read) ↦ tried_unread _ (row_tried state (drawing_for old.tail none.3.r) false read.2) (inl (refl, drawing_reads old.tail none.3.r))
+    | inr (inl read) ↦ tried_unread _ (row_tried state (victim_reads_for old.tail none.3.r) false read.2) (inl (refl, drawing_reads old.tail none.3.r))
     | inr (inr failed) ↦ cc
   ]))
 

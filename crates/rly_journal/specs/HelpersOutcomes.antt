@@ -1,5 +1,5 @@
--- Helpers: what came of the calls of a round before payloads are read, in a spool of places and one with bytes. Nothing
--- here is claimed: what a round answers is said by `Rounds`.
+-- Helpers: the outcomes of a round's calls before payloads are read, in a spool of device addresses and in one with
+-- bytes. No public contract cites them; `Rounds` defines the replies of a round.
 use Rattle.std.specs.Prelude.{◌≡◌, ◌⊎◌, ℕ, ◌-◌, ◌<◌, ◌≤◌, List, [], ◌∷◌, ◌++◌, length, true, IsTrue, Option, Ok}
 use Rattle.std.specs.List.{zip}
 use Rattle.rly_core.specs.declared.ids.HopId.{HopId}
@@ -21,25 +21,25 @@ use Rattle.rly_machine.specs.Query.{item_of}
 use Rattle.rly_machine.specs.State.{State}
 use Rattle.rly_machine.specs.Step.{step}
 use Rattle.rly_record.specs.Spelling.{HasRecord, IsShort}
-use Rattle.rly_checkpoint.specs.Stored.{stored_length}
-use Rattle.rly_checkpoint.specs.declared.stored.Place.{Place}
-use Rattle.rly_checkpoint.specs.declared.stored.Stored.{Stored}
+use Rattle.rly_segment_checkpoint.specs.Stored.{stored_length}
+use Rattle.rly_segment_checkpoint.specs.declared.stored.DeviceAddress.{DeviceAddress}
+use Rattle.rly_segment_checkpoint.specs.declared.stored.Stored.{Stored}
 use Rattle.rly_reclaim.specs.Room.{IsDue}
 use Rattle.rly_segment.specs.Heads.{segment_place}
-use Rattle.rly_moving.specs.Moving.{LiesThere}
-use Rattle.rly_keeping.specs.Keeping.{IsAlike}
-use Rattle.rly_index.specs.Index.{IndexState, IsAt}
-use Rattle.rly_grouping.specs.Groups.{GroupState, Holds, record_place, with_record}
-use Rattle.rly_grouping.specs.Lying.{Commands, placed_at, placed_group}
-use Rattle.rly_fetching.specs.Fetching.{lying}
-use Rattle.rly_fetching.specs.declared.outcome.Outcome.{Outcome}
-use Rattle.rly_fetching.specs.declared.outcome.Outcome.TheVariants.{Answered, Wanted}
+use Rattle.rly_journal_relocate.specs.Relocation.{LiesThere}
+use Rattle.rly_journal_index.specs.IndexRelation.{IsAlike}
+use Rattle.rly_journal_index.specs.Index.{IndexState, IsAt}
+use Rattle.rly_journal.specs.Groups.{GroupState, Holds, record_place, with_record}
+use Rattle.rly_journal.specs.GroupAddresses.{Commands, placed_at, placed_group}
+use Rattle.rly_journal_fetch.specs.FetchReads.{stored_at_address}
+use Rattle.rly_journal_fetch.specs.declared.outcome.Outcome.{Outcome}
+use Rattle.rly_journal_fetch.specs.declared.outcome.Outcome.TheVariants.{Answered, Wanted}
 use Rattle.rly_journal.specs.Rounds.{AreReadsOf, MayWantMemory, MayWantRoom}
 
 -- ---- one command
 
--- a group is made, of payloads as long as the spool has them, that will stand at a gate in the current segment, which
--- isn't used where the next record will stand, and has room for the largest group; it may take one command more
+-- a group under construction, with the spool's maximum payload length, for a gate in the current segment, which is
+-- unused from the next record on and has room for the largest group; it may get one more command
 pub record IsGrouping (gate : ℕ) (x : IndexState) (group : GroupState) : Type 0 where
   pub commands : Commands
   pub holds : Holds commands group
@@ -49,13 +49,13 @@ pub record IsGrouping (gate : ℕ) (x : IndexState) (group : GroupState) : Type 
   pub below : x.used ≤ record_place gate group
   pub ready : IsDue x.geometry (gate - segment_place x.geometry x.segment) → ⊥
 
--- a command is answered by the machine, or refused memory that it may want
-abbrev pub IsToldOf : Command (List ℕ) → Reply → State (List ℕ) → Type 0
-IsToldOf command told t =
+-- the machine's reply to a command, or a failed allocation, if the command may need one
+abbrev pub IsAnswerTo : Command (List ℕ) → Reply → State (List ℕ) → Type 0
+IsAnswerTo command told t =
     (told ≡ (step length t command).1) ⊎ ((told ≡ Refused OutOfMemory) × MayWantRoom t command)
 
--- a command was accepted: the index went on by it, with its payload by place, its record is
--- in the group, and it is in the log
+-- an accepted command: the index applied it, with its payload by device address, its record is in the group, and it is
+-- in the log
 pub record IsTaken (gate : ℕ) (command : Command (List ℕ)) (x y : IndexState) (old new : GroupState)
     (before after : Commands) : Type 0 where
   pub accepted : IsTrue (is_accepted (step stored_length x.spool.state (placed_at (record_place gate old) command)).1)
@@ -75,19 +75,19 @@ pub record IsLeft (x y : IndexState) (old new : GroupState) (before after : Comm
 
 -- ---- one call
 
--- the only failure that a call is answered with is want of memory
+-- the only failure in a reply is a failed allocation
 abbrev pub OnlyMemory : Entry → Type 0
 OnlyMemory entry = is_failure entry.1.reply ≡ true → entry.1.reply ≡ Refused OutOfMemory
 
--- a call is answered without a look at the device
+-- the reply to a call that needs no read of the device
 pub record IsKnown (call : Call) (answer : Answer) (t : State (List ℕ)) : Type 0 where
   pub answered : IsAnswered (λ reply. reply) 0 t (call, answer)
   pub only : OnlyMemory (call, answer)
   pub wanted : answer.reply ≡ Refused OutOfMemory → MayWantMemory t call.ask
   pub unread : AreReadsOf t call.ask answer.reply []
 
--- a call asks for a payload in flight with its limit, which lies at a place if it has bytes
-pub record IsWanted (g : Geometry) (call : Call) (seat : SeatId) (number at limit : ℕ) (place : Option Place)
+-- a call requests a payload in flight with its limit, and has its device address if it has bytes
+pub record IsWanted (g : Geometry) (call : Call) (seat : SeatId) (number at limit : ℕ) (place : Option DeviceAddress)
     (s : State Stored) (t : State (List ℕ)) : Type 0 where
   pub same_seat : seat ≡ call.seat
   pub same_number : number ≡ call.number
@@ -98,43 +98,43 @@ pub record IsWanted (g : Geometry) (call : Call) (seat : SeatId) (number at limi
   pub item : Item Stored
   pub found : item_of s hop custody ≡ Ok item
   pub same_limit : limit ≡ item.limit
-  pub lies : lying place ≡ item.payload
+  pub lies : stored_at_address place ≡ item.payload
   pub there : LiesThere g item.payload
 
--- what came of a call, in a spool of places and in the one with bytes
+-- the outcome of a call, in a spool of device addresses and in the one with bytes
 abbrev pub IsOutcomeOf : Geometry → Call → Outcome → State Stored → State (List ℕ) → Type 0
 IsOutcomeOf g call (Answered answer) s t = IsKnown call answer t
 IsOutcomeOf g call (Wanted seat number at limit place) s t = IsWanted g call seat number at limit place s t
 
 -- its command, if it was accepted
-abbrev pub taken_by : Call → Outcome → Commands
-taken_by call (Answered answer) = accepted_by call.ask answer.reply
-taken_by call (Wanted seat number at limit place) = []
+abbrev pub command_accepted : Call → Outcome → Commands
+command_accepted call (Answered answer) = accepted_by call.ask answer.reply
+command_accepted call (Wanted seat number at limit place) = []
 
 -- it is in the group, or nothing changed
 abbrev pub IsTakenOrLeft : ℕ → Call → Outcome → IndexState → IndexState → GroupState → GroupState → Commands → Commands
     → Type 0
 IsTakenOrLeft gate call outcome x y old new before after =
-    ((command : Command (List ℕ)) × (taken_by call outcome ≡ command ∷ [])
+    ((command : Command (List ℕ)) × (command_accepted call outcome ≡ command ∷ [])
     × IsTaken gate command x y old new before after)
-    ⊎ ((taken_by call outcome ≡ []) × IsLeft x y old new before after)
+    ⊎ ((command_accepted call outcome ≡ []) × IsLeft x y old new before after)
 
 -- ---- all calls
 
--- the commands that were accepted, in order
+-- the accepted commands, in order
 abbrev pub taken_of : List (Call × Outcome) → Commands
 taken_of [] = []
-taken_of (x ∷ xs) = taken_by x.0 x.1 ++ taken_of xs
+taken_of (x ∷ xs) = command_accepted x.0 x.1 ++ taken_of xs
 
--- what came of calls, one after the other, after some commands: each in the spools that the commands before it left
+-- the outcomes of calls in order, after some commands: each in the spools that the commands before it left
 abbrev pub AreOutcomes : Geometry → ℕ → State Stored → State (List ℕ) → Commands → List (Call × Outcome) → Type 0
 AreOutcomes g gate s t done [] = Unit {0}
 AreOutcomes g gate s t done (x ∷ xs) =
     IsOutcomeOf g x.0 x.1 (fold stored_length s (placed_group gate done)) (fold length t done)
-    × AreOutcomes g gate s t (done ++ taken_by x.0 x.1) xs
+    × AreOutcomes g gate s t (done ++ command_accepted x.0 x.1) xs
 
--- calls were evaluated from an index: their accepted commands are those of the group, which will stand at a gate, and
--- those that the log grew by, and the index went on by them
+-- calls were evaluated from an index: their accepted commands are those of the group for a gate, and those that the log
+-- grew by, and the index applied them
 pub record IsEvaluated (gate : ℕ) (old new : IndexState) (group : GroupState) (before after : Commands)
     (calls : List Call) (outcomes : List Outcome) : Type 0 where
   pub count : length outcomes ≡ length calls

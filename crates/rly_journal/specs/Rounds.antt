@@ -1,4 +1,4 @@
--- What a round answers, where payloads are read from the device.
+-- The replies of a round; payloads are read from the device.
 use Rattle.std.specs.Prelude.{◌≡◌, ◌⊎◌, ◌++◌, ℕ, List, [], ◌∷◌, length, map, true, None}
 use Rattle.std.specs.List.{AllByRecursion, zip}
 use Rattle.rly_core.specs.declared.refusal.Refusal.{Refusal}
@@ -18,7 +18,7 @@ use Rattle.rly_machine.specs.Pick.{pick_refusal}
 use Rattle.rly_machine.specs.Query.{HasBytes, fetch_reply, item_of, query_reply}
 use Rattle.rly_machine.specs.State.{State}
 use Rattle.rly_machine.specs.Take.{take_refusal}
-use Rattle.rly_fetching.specs.Trials.{Try}
+use Rattle.rly_disk.specs.Trials.{Try}
 use Rattle.rly_journal.specs.Fetches.{AreFetching}
 
 -- a Fetch
@@ -28,13 +28,13 @@ IsFetch (ask.Query (Fetch hop number)) = Unit {0}
 IsFetch (ask.Query (Window hop)) = ⊥
 IsFetch (ask.Query (Show hop)) = ⊥
 
--- the failures that a call is answered with are want of memory and, of a Fetch, a read that failed
+-- the failures in a reply are a failed allocation and, for a Fetch, a failed read
 abbrev pub OnlyLost : Entry → Type 0
 OnlyLost entry = is_failure entry.1.reply ≡ true
     → (entry.1.reply ≡ Refused OutOfMemory) ⊎ ((entry.1.reply ≡ Refused DeviceRead) × IsFetch entry.0.ask)
 
--- calls were answered one after the other from a state: each by the machine in the running state, but for the bytes of
--- a Fetch on a disk that isn't honest, or by such a failure
+-- the replies to calls in order from a state: each is the machine's in the running state, except for the bytes of a
+-- Fetch on a disk that isn't honest, or such a failure
 pub record AreServed (disk : DiskState) (calls : List Call) (given : List Answer) (s t : State (List ℕ)) : Type 0 where
   pub count : length given ≡ length calls
   pub legal : LegalButForBytes s (zip calls given)
@@ -42,24 +42,24 @@ pub record AreServed (disk : DiskState) (calls : List Call) (given : List Answer
   pub only : AllByRecursion OnlyLost (zip calls given)
   pub state : t ≡ state_after s (zip calls given)
 
--- a command that memory may be refused to: a Take or a Pick that no check refuses
+-- a command that may need an allocation: a Take or a Pick that passes all checks
 abbrev pub MayWantRoom : State (List ℕ) → Command (List ℕ) → Type 0
 MayWantRoom s (Take peer number hop stamp limit payload) =
     take_refusal length s peer number hop stamp limit (length payload) ≡ None
 MayWantRoom s (Pick hop now) = pick_refusal s hop now ≡ None
 MayWantRoom s (Release hop number) = ⊥
 
--- an ask that memory may be refused to: such a command, or a Fetch of a payload that has bytes
+-- a request that may need an allocation: such a command, or a Fetch of a payload that has bytes
 abbrev pub MayWantMemory : State (List ℕ) → Ask → Type 0
 MayWantMemory s (ask.Command command) = MayWantRoom s command
 MayWantMemory s (ask.Query query) = HasBytes (query_reply s query)
 
--- an ask that 13 may be answered to: a Fetch of a payload that has bytes
+-- a request that may get the reply 13: a Fetch of a payload that has bytes
 abbrev pub MayWantBytes : State (List ℕ) → Ask → Type 0
 MayWantBytes s (ask.Command command) = ⊥
 MayWantBytes s (ask.Query query) = HasBytes (query_reply s query)
 
--- 14 is answered only to asks that may want memory, and 13 only to such a Fetch
+-- the reply 14 occurs only for requests that may need an allocation, and 13 only for such a Fetch
 abbrev pub AreLostWhereWanted : State (List ℕ) → List Entry → Type 0
 AreLostWhereWanted s [] = Unit {0}
 AreLostWhereWanted s (entry ∷ entries) =
@@ -67,27 +67,27 @@ AreLostWhereWanted s (entry ∷ entries) =
     × (entry.1.reply ≡ Refused DeviceRead → MayWantBytes s entry.0.ask)
     × AreLostWhereWanted (next_state s entry) entries
 
--- 13 was answered only where this holds
+-- if the reply 13 occurs, this property holds
 abbrev pub AreUnreadWhere : Type 0 → List Entry → Type 0
 AreUnreadWhere Holds entries = AllByRecursion (λ entry. entry.1.reply ≡ Refused DeviceRead → Holds) entries
 
--- the reads of an ask that was answered so: those of a Fetch
+-- the reads of a request with this reply: those of a Fetch
 abbrev pub AreReadsOf : State (List ℕ) → Ask → Reply → List Try → Type 0
 AreReadsOf s (ask.Query (Fetch hop number)) told rows = AreFetching (fetch_reply (item_of s hop number)) told rows
 AreReadsOf s _ told rows = rows ≡ []
 
--- the reads of calls, in their order, each in the state that those before it left
+-- the reads of calls in order, each in the state that those before it left
 abbrev pub AreFetches : State (List ℕ) → List Entry → List Try → Type 0
 AreFetches s [] rows = rows ≡ []
 AreFetches s (entry ∷ entries) rows =
     (first : List Try) × (rest : List Try) × (rows ≡ first ++ rest) × AreReadsOf s entry.0.ask entry.1.reply first
     × AreFetches (next_state s entry) entries rest
 
--- the answer that refuses a call
+-- the reply that refuses a call
 abbrev pub refusal_of : Refusal → ℕ → Call → Answer
 refusal_of refusal position call =
     record { seat = call.seat; number = call.number; reply = Refused refusal; position = position }
 
--- all calls are refused, by one refusal and at one position
+-- all calls are refused, with one refusal and at one position
 abbrev pub refusals : Refusal → ℕ → List Call → List Answer
 refusals refusal position calls = map (refusal_of refusal position) calls

@@ -1,4 +1,5 @@
-ghost use Rattle.std.specs.Prelude.{◌+◌, ◌++◌, IsOk, OnErr, OnOk, ◌≡◌, ◌≢◌, ◌⊎◌, ◌≤◌, Err, IfErr, IfOk, List, MatchResult, Ok, [], true, false, length, vec_capacity, if◌then◌else◌};
+ghost use Rattle.std.specs.Prelude.{◌+◌, ◌++◌, IsOk, OnErr, OnOk, ◌≡◌, ◌≢◌, ◌⊎◌, ◌≤◌, Err, IfErr, IfOk, List};
+ghost use Rattle.std.specs.Prelude.{MatchResult, Ok, [], true, false, length, vec_capacity, if◌then◌else◌};
 ghost use Rattle.rly_core.specs.declared.refusal.Refusal.{Refusal as ARefusal};
 ghost use Rattle.rly_core.specs.declared.refusal.Refusal.TheVariants as refusal;
 ghost use Rattle.std.specs.List.{zip};
@@ -8,41 +9,41 @@ ghost use Rattle.rly_machine.specs.declared.call.Answer.{Answer as AnAnswer};
 ghost use Rattle.rly_journal.specs.Journal.{holds_command, IsDueFor, IsRound, IsSafe, IsShut, MakesRound, MakesShut};
 ghost use Rattle.rly_journal.specs.HelpersReady.{IsReadied, IsServed};
 ghost use Rattle.rly_journal.specs.Rounds.{AreLostWhereWanted, refusals};
-ghost use Rattle.rly_gate.specs.Reading.{OnlyRead};
-ghost use Rattle.rly_grouping.specs.Groups.{empty_group};
+ghost use Rattle.rly_gate.specs.GroupReads.{OnlyRead};
+ghost use Rattle.rly_journal.specs.Groups.{empty_group};
 ghost use Rattle.rly_machine.specs.Sound.{IsSound};
 ghost use Rattle.rly_machine.specs.State.{has_peer, last_at};
 ghost use Rattle.rly_machine.specs.Query.{HasBytes, fetch_reply, item_of, show_reply};
 ghost use Rattle.rly_machine.specs.declared.reply.Reply.{Reply as AReply};
-ghost use Rattle.rly_standing.specs.Calls.{BreaksOpening, MakesOpening, tells};
-ghost use Rattle.rly_standing.specs.Log.{IsDurable, IsFull, IsSameHead};
-ghost use Rattle.rly_standing.specs.Standing.{Stands};
-ghost use Rattle.rly_journal.specs.Calls.{IsRenewal, MayRenew, Renewal};
-ghost use Rattle.rly_journal.specs.Faults.{IsRefused};
-ghost use Rattle.rly_journal.specs.Fetches.{AreFetching, IsFetchedAs, IsLostRead, told_of};
-ghost use Rattle.rly_fetching.specs.Trials.{Tries, Try};
+ghost use Rattle.rly_journal.specs.OpenCalls.{BreaksOpening, MakesOpening, open_calls_succeeded};
+ghost use Rattle.rly_journal.specs.Log.{IsDurable, IsFull, IsSameHead};
+ghost use Rattle.rly_journal.specs.Recovery.{Stands};
+ghost use Rattle.rly_journal.specs.RoundCalls.{IsRenewal, MayRenew, Renewal};
+ghost use Rattle.rly_journal.specs.OpenFaults.{IsRefused};
+ghost use Rattle.rly_journal.specs.Fetches.{AreFetching, IsFetchedAs, IsLostRead, reply_to_fetch};
+ghost use Rattle.rly_disk.specs.Trials.{Tries, Try};
 ghost use Rattle.rly_journal.specs.HelpersJournal.{IsAtEnd, IsLoggedFor, IsShaped};
 
-use crate::answering::{Accepted, evaluate, refuse_calls};
+use crate::evaluation::{Accepted, evaluate, refuse_calls};
+use crate::group::Group;
+use crate::next_segment::{RenewFault, append, is_full, renew};
+use crate::open_fault::OpenFault;
 use crate::recovery::{Recovered, recover};
-use crate::tail::{RenewFault, append, is_full, renew};
+use crate::tail::Tail;
 use http_server::Log;
 use rly_core::limits::{MAX_PAYLOAD, MAX_ROUND};
 use rly_core::{HopId, Params, PeerId, Refusal};
 use rly_disk::Disk;
-use rly_fetching::{Outcome, answer_all, place_of, read_payload, refuse_all};
-use rly_grouping::Group;
-use rly_index::Index;
-use rly_keeping::law_fetched;
+use rly_journal_fetch::{Outcome, answer_all, place_of, read_payload, refuse_all};
+use rly_journal_index::{Index, law_fetched};
 use rly_machine::{Answer, Ask, Call, Command, Payload, Reply};
-use rly_standing::{OpenFault, Tail};
 use std::alloc::{AllocError, Global};
 use std::marker::Model;
 use std::snapshot::Snapshot;
 
-/// A spool on a device, where its payloads stay. Contracts see its disk, where it ends there, its running state with bytes, and
-/// whether it is broken. That state is named by what only proofs read: the disk and the index when the device was opened, and the
-/// commands that were accepted since.
+/// A spool on a device, where its payloads stay. In contracts it is its disk, the end of the journal there, its running
+/// state with bytes, and whether it is broken. Ghost fields define that state: the disk and the index at opening, and
+/// the commands accepted since.
 #[derive(Drop)]
 pub struct Journal<D: Disk> {
     disk: D,
@@ -61,24 +62,26 @@ impl<D: Disk> Model for Journal<D> {
     ghost use Rattle.std.specs.Prelude.{map, vec_capacity};
     ghost use Rattle.rly_journal.specs.Journal.{JournalState};
     ghost use Rattle.rly_journal.specs.HelpersJournal.{IsIdle, IsSoundJournal};
-    ghost use Rattle.rly_journal.specs.Showing.{shown_state};
+    ghost use Rattle.rly_journal.specs.ShownState.{shown_state};
 
     ghost Value = { JournalState D };
 
     ghost view = { λ j. record {
       disk = j.disk;
       tail = j.tail;
-      state = shown_state (D.state j.first_disk.value).seen j.first_index.value.spool.state (map (λ e. e.0.value) j.accepted.items);
+      state = shown_state (D.state j.first_disk.value).seen j.first_index.value.spool.state
+          (map (λ e. e.0.value) j.accepted.items);
       position = j.position;
       broken = j.broken;
     } };
 
     ghost invariant = { λ j. IsSoundJournal (D.state j.disk) j.tail j.index
-        (shown_state (D.state j.first_disk.value).seen j.first_index.value.spool.state (map (λ e. e.0.value) j.accepted.items)) j.position j.broken
+        (shown_state (D.state j.first_disk.value).seen j.first_index.value.spool.state
+        (map (λ e. e.0.value) j.accepted.items)) j.position j.broken
         × IsIdle j.tail.geometry.params.payload j.group j.outcomes.items (vec_capacity j.outcomes) };
 }
 
-/// What opening a device made.
+/// The parts of a newly opened journal.
 #[derive(Drop)]
 struct Begun {
     found: Recovered,
@@ -87,21 +90,23 @@ struct Begun {
 }
 
 impl<D: Disk> Journal<D> {
-    /// Opens a device: makes its last writes durable, and reads what it stands for, but no payload by place. It writes nothing. At
-    /// every refusal the disk is handed back.
+    /// Opens a device: makes its last writes durable, and reads the recovered state, but no payload by device address.
+    /// Writes nothing. On an error the disk is returned.
     pub fn open(alloc: Global, disk: D) -> Result<Journal<D>, (OpenFault, D)>
-        // On an honest disk the state is the one that the device stands for.
+        // On an honest disk the state is the one that the device recovers to.
         ensures stands { (D.state disk).honest → IfOk result (λ journal. Stands (D.state disk).seen journal.state) }
         ensures whole { IfOk result (λ journal. (journal.broken ≡ false) × (journal.position ≡ journal.state.seq)) }
-        // A refusal is the first check that fails.
+        // The error is the first failed check.
         ensures refused { (D.state disk).honest → IfErr result (λ failed. IsRefused (D.state disk).seen failed.0) }
-        ensures only { MatchResult result (λ journal. OnlyRead (D.state disk) (D.state journal.disk)) (λ failed. OnlyRead (D.state disk) (D.state failed.1)) }
+        ensures only { MatchResult result (λ journal. OnlyRead (D.state disk) (D.state journal.disk))
+            (λ failed. OnlyRead (D.state disk) (D.state failed.1)) }
         ensures settled { (D.state disk).honest → IfOk result (λ journal. Settled (D.state journal.disk)) }
-        // What is refused is durable: it is refused again after a crash.
-        ensures stays_refused { (D.state disk).honest → IfErr result (λ failed. failed.0 ≢ OpenFault.Device → Settled (D.state failed.1)) }
-        // One sync, and then reads. `Device` is answered where one of them failed, and it was the last.
+        // A refused image is durable: it is refused again after a crash.
+        ensures stays_refused { (D.state disk).honest
+            → IfErr result (λ failed. failed.0 ≢ OpenFault.Device → Settled (D.state failed.1)) }
+        // One sync, and then reads. `Device` is returned if one of them failed, and it was the last.
         ensures trace { MatchResult result (λ journal. MakesOpening D.state journal.tail disk journal.disk)
-            (λ failed. BreaksOpening D.state (tells failed.0) disk failed.1) }
+            (λ failed. BreaksOpening D.state (open_calls_succeeded failed.0) disk failed.1) }
     {
         let mut disk = disk;
         match begin(alloc, &mut disk) {
@@ -128,8 +133,8 @@ impl<D: Disk> Journal<D> {
         }
     }
 
-    /// Answers 1 to 64 calls in order, once the commands among them that are accepted are durable. Where memory is
-    /// refused for the answers, nothing changed.
+    /// Replies to 1 to 64 calls in order, after the accepted commands among them are durable. If memory allocation
+    /// fails for the replies, nothing changed.
     pub fn round(
         &mut self,
         alloc: Global,
@@ -137,35 +142,41 @@ impl<D: Disk> Journal<D> {
         answers: &mut Vec<Answer>,
     ) -> Result<(), AllocError>
         requires { IsIn 1 64 (length calls.old.items) }
-        ensures err { OnErr result ((self.new ≡ self.old) × (calls.new.items ≡ calls.old.items) × (answers.new.items ≡ answers.old.items)) }
+        ensures err { OnErr result
+            ((self.new ≡ self.old) × (calls.new.items ≡ calls.old.items) × (answers.new.items ≡ answers.old.items)) }
         ensures reserved { length answers.old.items + length calls.old.items ≤ vec_capacity answers.old → IsOk result }
         ensures emptied { OnOk result (calls.new.items ≡ []) }
         ensures answers { OnOk result ((given : List AnAnswer) × (answers.new.items ≡ answers.old.items ++ given)
             × IsRound D.state self.old self.new calls.old.items given) }
-        // 14 is answered only to a Take or a Pick that no check refuses and to a Fetch of bytes, and 13 to such a Fetch; or either to all
-        // calls, where a segment is due that was not opened.
+        // The reply 14 occurs only for a Take or a Pick that passes all checks and for a Fetch of bytes, and 13 only
+        // for such a Fetch; or either for all calls, if a segment is due but was not opened.
         ensures lost { OnOk result ((given : List AnAnswer) × (answers.new.items ≡ answers.old.items ++ given)
-            × (AreLostWhereWanted self.old.state (zip calls.old.items given) ⊎ IsShut self.old self.new calls.old.items given)) }
-        // What it asks of the device: a segment is opened or not, and the commands that its answers accepted are appended as
-        // one group; then the payloads of its Fetches are read, each whatever became of those before it. Where a segment is due and
-        // was not opened, it is told how all calls are refused and what failed.
-        ensures trace { self.old.broken ≡ false → OnOk result (MakesRound D.state self.old self.new calls.old.items answers.old.items answers.new.items
+            × (AreLostWhereWanted self.old.state (zip calls.old.items given)
+            ⊎ IsShut self.old self.new calls.old.items given)) }
+        // The device calls: an opening of a segment or none, then the append of the accepted commands as one group,
+        // then the reads for its Fetches, each whether or not earlier ones failed. If a segment is due but was not
+        // opened, the clause gives the refusal of all calls and the failed call.
+        ensures trace { self.old.broken ≡ false
+            → OnOk result (MakesRound D.state self.old self.new calls.old.items answers.old.items answers.new.items
             ⊎ ((self.new.state ≡ self.old.state) × (told : ARefusal)
             × (answers.new.items ≡ answers.old.items ++ refusals told self.old.position calls.old.items)
             × MakesShut D.state self.old self.new calls.old.items told)) }
-        // A crash at any moment of the round leaves its commands whole or none of them.
-        ensures any_moment { (D.state self.old.disk).honest → self.old.broken ≡ false → OnOk result (IsSafe D.state self.old self.new calls.old.items) }
+        // A crash at any moment of the round leaves all of its commands or none of them.
+        ensures any_moment { (D.state self.old.disk).honest → self.old.broken ≡ false
+            → OnOk result (IsSafe D.state self.old self.new calls.old.items) }
         ensures durable { (D.state self.new.disk).honest → self.new.broken ≡ false
             → OnOk result (Settled (D.state self.new.disk) × Stands (D.state self.new.disk).seen self.new.state) }
         ensures syncs { (D.state self.new.disk).syncs ≤ (D.state self.old.disk).syncs + 5 }
-        ensures few_syncs { (IsDueFor self.old calls.old.items → ⊥) → (D.state self.new.disk).syncs ≤ (D.state self.old.disk).syncs + 2 }
-        // A segment is opened where one is due, also where its commands are then refused, and only there.
+        ensures few_syncs { (IsDueFor self.old calls.old.items → ⊥)
+            → (D.state self.new.disk).syncs ≤ (D.state self.old.disk).syncs + 2 }
+        // If a segment is due, one is opened or all calls are refused; if none is due, none is opened.
         ensures opened { IsDueFor self.old calls.old.items → OnOk result (self.new.broken ≡ false
             → (self.new.tail.generation ≡ self.old.tail.generation + 1)
-            ⊎ ((given : List AnAnswer) × (answers.new.items ≡ answers.old.items ++ given) × IsShut self.old self.new calls.old.items given)) }
+            ⊎ ((given : List AnAnswer) × (answers.new.items ≡ answers.old.items ++ given)
+            × IsShut self.old self.new calls.old.items given)) }
         ensures stays { (IsDueFor self.old calls.old.items → ⊥) → IsSameHead self.old.tail self.new.tail }
         ensures later { Later (D.state self.old.disk) (D.state self.new.disk) }
-        // Both lists keep the memory that they have.
+        // Neither list loses capacity.
         ensures calls_capacity { vec_capacity calls.new ≡ vec_capacity calls.old }
         ensures answers_capacity { vec_capacity answers.old ≤ vec_capacity answers.new }
     {
@@ -183,7 +194,7 @@ impl<D: Disk> Journal<D> {
         Ok(())
     }
 
-    /// Opens a segment where one is due, or says how all calls are refused.
+    /// Opens a segment if one is due, or returns the refusal for all calls.
     fn make_ready(&mut self, alloc: Global, calls: &[Call]) -> Result<(), Refusal>
         requires { self.old.broken ≡ false }
         ensures { IsReadied D.state self.old self.new calls.now result }
@@ -202,7 +213,7 @@ impl<D: Disk> Journal<D> {
         }
     }
 
-    /// Evaluates the calls, makes what they changed durable, and then answers them.
+    /// Evaluates the calls, makes their changes durable, and then replies to them.
     fn serve(&mut self, alloc: Global, calls: &mut Vec<Call>, answers: &mut Vec<Answer>)
         requires broken { self.old.broken ≡ false }
         requires count { length calls.old.items ≤ 64 }
@@ -239,20 +250,23 @@ impl<D: Disk> Journal<D> {
         }
     }
 
-    /// The payload in flight under a custody number, by one read of the device where it has bytes.
+    /// Returns the payload in flight under a custody number, by one read of the device if it has bytes.
     pub fn fetch(&mut self, alloc: Global, hop: HopId, number: u64) -> Result<Vec<u8>, Refusal>
-        // On any disk it is as long as the machine's, on an honest one it is that.
+        // On any disk it has the length of the machine's payload, on an honest one it is that payload.
         ensures found { IfOk result (λ bytes. (self.old.broken ≡ false)
             × IsFetchedAs (D.state self.old.disk) (fetch_reply (item_of self.old.state hop number)) bytes.items) }
-        // 13 is answered where the read failed, and 14 where memory was refused: both only for a payload that has bytes.
-        ensures refused { IfErr result (λ told. ((self.old.broken ≡ true) × (told ≡ refusal.Broken)) ⊎ ((self.old.broken ≡ false)
+        // The error is 13 if the read failed, and 14 if the allocation failed: both only for a payload that has bytes.
+        ensures refused { IfErr result
+            (λ told. ((self.old.broken ≡ true) × (told ≡ refusal.Broken)) ⊎ ((self.old.broken ≡ false)
             × ((fetch_reply (item_of self.old.state hop number) ≡ AReply.Refused told)
             ⊎ (IsLostRead told × HasBytes (fetch_reply (item_of self.old.state hop number)))))) }
-        // Nothing changes but what the disk counts.
+        // Only the disk's counters change.
         ensures same { self.new ≡ record self.old { disk = self.new.disk } }
         ensures only { OnlyRead (D.state self.old.disk) (D.state self.new.disk) }
-        ensures trace { (rows : List Try) × Tries D.state rows self.old.disk self.new.disk × (self.old.broken ≡ true → rows ≡ [])
-            × (self.old.broken ≡ false → AreFetching (fetch_reply (item_of self.old.state hop number)) (told_of result) rows) }
+        ensures trace { (rows : List Try) × Tries D.state rows self.old.disk self.new.disk
+            × (self.old.broken ≡ true → rows ≡ [])
+            × (self.old.broken ≡ false
+            → AreFetching (fetch_reply (item_of self.old.state hop number)) (reply_to_fetch result) rows) }
     {
         if self.broken {
             return Err(Refusal::Broken);
@@ -270,7 +284,7 @@ impl<D: Disk> Journal<D> {
         Ok(payload.into_bytes())
     }
 
-    /// All numbers of a hop, or that there is no such hop, or that the journal is broken.
+    /// Returns all counters of a hop, or that the hop doesn't exist, or that the journal is broken.
     pub fn ask_show(&self, hop: HopId) -> Reply
         ensures { result ≡ (if self.now.broken then AReply.Refused refusal.Broken else show_reply self.now.state hop) }
     {
@@ -281,7 +295,7 @@ impl<D: Disk> Journal<D> {
         self.index.ask_show(hop)
     }
 
-    /// The last number taken from a peer, or that there is no such peer, or that the journal is broken.
+    /// Returns the last number taken from a peer, or that the peer doesn't exist, or that the journal is broken.
     pub fn last(&self, peer: PeerId) -> Result<u64, Refusal>
         ensures { result ≡ (if self.now.broken then Err refusal.Broken
             else if has_peer self.now.state peer then Ok (last_at self.now.state peer) else Err refusal.NoSuchPeer) }
@@ -297,28 +311,28 @@ impl<D: Disk> Journal<D> {
         Ok(machine.last(peer))
     }
 
-    /// The parameters of the spool.
+    /// Returns the parameters of the spool.
     pub fn params(&self) -> Params
         ensures { result ≡ self.now.state.params }
     {
         self.index.machine().params()
     }
 
-    /// How many commands were accepted, as far as was answered.
+    /// Returns the number of accepted commands, up to the last reply.
     pub fn position(&self) -> u64
         ensures { result ≡ self.now.position }
     {
         self.position
     }
 
-    /// Whether a write or a sync failed: every later call is refused, until the device is opened again.
+    /// Returns true iff a write or a sync failed: every later call is refused, until the device is reopened.
     pub fn is_broken(&self) -> bool
         ensures { result ≡ self.now.broken }
     {
         self.broken
     }
 
-    /// The disk, given back.
+    /// Returns the disk.
     pub fn into_disk(self) -> D
         ensures { result ≡ self.disk }
     {
@@ -337,8 +351,8 @@ impl<D: Disk> Journal<D> {
         disk
     }
 
-    /// What is true of every journal that isn't broken, on an honest disk: nothing is pending, and what the device
-    /// reads stands for the running state.
+    /// The invariant of a journal that isn't broken, on an honest disk: no write is pending, and the bytes that the
+    /// device reads recover to the running state.
     pub fn law_durable(&self)
         ensures { (D.state self.now.disk).honest → self.now.broken ≡ false
             → Settled (D.state self.now.disk) × Stands (D.state self.now.disk).seen self.now.state }
@@ -346,50 +360,53 @@ impl<D: Disk> Journal<D> {
         let _ = &self.tail;
     }
 
-    /// What is true of every journal that isn't broken: it stands at the position of its running state.
+    /// The invariant of a journal that isn't broken: its position is that of its running state.
     pub fn law_counted(&self)
         ensures { self.now.broken ≡ false → self.now.position ≡ self.now.state.seq }
     {
         let _ = &self.tail;
     }
 
-    /// What is true of every journal's running state, on any disk.
+    /// The invariant of every journal's running state, on any disk.
     pub fn law_sound(&self)
         ensures { IsSound length self.now.state }
     {
         self.index.law_index();
     }
 
-    /// Where a journal ends that isn't broken, on an honest disk: in the newest segment, at the first closed gate
-    /// after the head there. So a segment is due, as `round` says it, exactly where it is due by what the device reads.
+    /// The end of a journal that isn't broken, on an honest disk: in the newest segment, at the first closed gate after
+    /// the head. So a segment is due for `round` if and only if it is due by the bytes that the device reads.
     pub fn law_tail(&self)
-        ensures { (D.state self.now.disk).honest → self.now.broken ≡ false → IsDurable (D.state self.now.disk) self.now.tail self.now.state }
+        ensures { (D.state self.now.disk).honest → self.now.broken ≡ false
+            → IsDurable (D.state self.now.disk) self.now.tail self.now.state }
     {
         let _ = &self.tail;
     }
 
-    /// What is true of a segment that is opened where one is due, on an honest disk: its head may be written over what the device
-    /// reads, holds the running state, and has room for the largest group.
+    /// The properties of a segment that is opened when one is due, on an honest disk: its head may be written over the
+    /// bytes that the device reads, holds the running state, and leaves room for the largest group.
     pub fn law_renewed(&self)
         ensures { (D.state self.now.disk).honest → self.now.broken ≡ false → IsFull self.now.tail → (r : Renewal)
-            → IsRenewal (D.state self.now.disk) self.now.tail self.now.state r → MayRenew (D.state self.now.disk).seen self.now.tail self.now.state r }
+            → IsRenewal (D.state self.now.disk) self.now.tail self.now.state r
+            → MayRenew (D.state self.now.disk).seen self.now.tail self.now.state r }
     {
         self.law_sound();
         law_wide(&self.tail);
     }
 }
 
-/// Makes a device's last writes durable, and reads what it stands for.
+/// Makes a device's last writes durable, and reads the recovered state.
 fn begin<D: Disk>(alloc: Global, disk: &mut D) -> Result<Begun, OpenFault>
     ensures shaped { IfOk result (λ begun. IsShaped (D.state disk.new).size begun.found.tail begun.found.index) }
     ensures ends { IfOk result (λ begun. IsAtEnd begun.found.tail begun.found.index) }
     ensures group { IfOk result (λ begun. begun.group ≡ empty_group begun.found.tail.geometry.params.payload) }
     ensures outcomes { IfOk result (λ begun. begun.outcomes.items ≡ []) }
     ensures room { IfOk result (λ begun. 64 ≤ vec_capacity begun.outcomes) }
-    ensures logged { (D.state disk.old).honest → IfOk result (λ begun. IsLoggedFor (D.state disk.old).seen begun.found.tail begun.found.index) }
+    ensures logged { (D.state disk.old).honest
+        → IfOk result (λ begun. IsLoggedFor (D.state disk.old).seen begun.found.tail begun.found.index) }
     ensures refused { (D.state disk.old).honest → IfErr result (λ fault. IsRefused (D.state disk.old).seen fault) }
     ensures trace { MatchResult result (λ begun. MakesOpening D.state begun.found.tail disk.old disk.new)
-        (λ fault. BreaksOpening D.state (tells fault) disk.old disk.new) }
+        (λ fault. BreaksOpening D.state (open_calls_succeeded fault) disk.old disk.new) }
 {
     let Ok(()) = disk.sync() else {
         return Err(OpenFault::Device);
@@ -407,7 +424,8 @@ fn begin<D: Disk>(alloc: Global, disk: &mut D) -> Result<Begun, OpenFault>
     }
 }
 
-/// The memory that every round needs for its group, where payloads have at most so many bytes, and for what comes of its calls.
+/// Allocates the memory that every round needs, for its group with payloads of at most `payload` bytes, and for the
+/// outcomes of its calls.
 fn make_room(alloc: Global, payload: u64) -> Result<(Group, Vec<Outcome>), AllocError>
     requires { payload ≤ MAX_PAYLOAD }
     ensures group { IfOk result (λ room. room.0 ≡ empty_group payload) }
@@ -419,14 +437,14 @@ fn make_room(alloc: Global, payload: u64) -> Result<(Group, Vec<Outcome>), Alloc
     Ok((group, outcomes))
 }
 
-/// How many gates the end of a journal knows of.
+/// The number of gates in a `Tail`.
 fn law_wide(tail: &Tail)
     ensures { length tail.now.closed ≡ 256 }
 {
     let _closed = tail.closed;
 }
 
-/// Whether a round holds a command.
+/// Returns true iff a round has a command.
 fn holds_command(calls: &[Call]) -> bool
     ensures { result ≡ holds_command calls.now }
 {

@@ -1,23 +1,34 @@
-//! The journal: a spool on a device of 2 to 256 segments, whose state is there again after a
-//! crash. Its payloads stay on the device.
+//! The journal: a spool on a device of 2 to 256 segments that a crash at any moment leaves whole.
 //!
-//! `specs/Standing.antt` of `rly_standing` says when the bytes of a device stand for a state, and
-//! `specs/Faults.antt` why they stand for none. `Journal::open` reads heads and groups alone, and
-//! keeps where each payload lies. `Journal::round` answers 1 to 64 calls once those of them that
-//! are accepted commands are durable, and then reads the payloads of its Fetches
-//! (`specs/Journal.antt`, `specs/Rounds.antt`, `specs/Calls.antt`); a crash at any moment leaves a
-//! round whole or not at all. The state with bytes is what proofs read (`specs/Showing.antt`): no
-//! byte of a payload is kept in memory. It works on any disk that keeps to the disk model, and
-//! belongs to one thread. Callers: `rly_flush`, the crates above it that open a journal or hand
-//! one on, those of the commands on a device, and the relays in memory of `rly_relay` and
-//! `rly_pair`.
+//! `Journal::open` recovers the state that the device's bytes stand for (`specs/Recovery.antt`),
+//! or returns the first check that fails (`specs/Faults.antt`). `Journal::round` answers 1 to 64
+//! calls after their commands are durable: one commit group, two syncs (`specs/Rounds.antt`,
+//! `specs/RoundCalls.antt`). Payloads stay on the device; memory holds an index
+//! (`specs/Journal.antt`). Works on any disk that meets the disk model, in one thread. Callers:
+//! `rly_flush`, `rly_audit`, the commands, and the models `rly_world_relay` and `rly_world_pair`.
 #![tactic(auto)]
 
-mod answering;
+mod evaluation;
+mod fault_laws;
+mod group;
+mod group_laws;
 mod journal;
-mod laws;
+mod next_segment;
+mod open_fault;
+mod placement;
 mod recovery;
+mod recovery_laws;
 mod tail;
 
+pub use crate::fault_laws::law_refused_stands_for_none;
+pub use crate::group::Group;
+pub use crate::group_laws::{
+    law_brought, law_gathered, law_grouped, law_holds, law_places, law_room,
+};
 pub use crate::journal::Journal;
-pub use crate::laws::law_refused_stands_for_none;
+pub use crate::open_fault::OpenFault;
+pub use crate::placement::{inline_command, is_recordable, placed_at};
+pub use crate::recovery_laws::{
+    law_formatted_stands, law_frame, law_inline_head, law_opened, law_stands_for_one,
+};
+pub use crate::tail::Tail;

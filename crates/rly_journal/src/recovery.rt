@@ -2,47 +2,50 @@ ghost use Rattle.std.specs.Prelude.{◌≡◌, ◌+◌, ◌<◌, ◌≤◌, ◌^
 ghost use Rattle.rly_record.specs.Spelling.{HaveBody, body_of};
 ghost use Rattle.rly_segment.specs.Heads.{segment_end};
 ghost use Rattle.rly_journal.specs.HelpersJournal.{IsAtEnd, IsShaped};
-ghost use Rattle.rly_journal.specs.HelpersReading.{IsGivenUp, IsReadOn, IsReading, IsRecovered, IsTriedAgain};
+ghost use Rattle.rly_journal.specs.HelpersReplay.{IsGivenUp, IsReadOn, IsReading, IsRecovered, IsTriedAgain};
 
+use crate::open_fault::OpenFault;
+use crate::placement::placed_at;
+use crate::tail::Tail;
 use rly_disk::Disk;
 use rly_gate::{GroupFault, read_group};
-use rly_grouping::placed_at;
-use rly_index::Index;
+use rly_journal_index::Index;
 use rly_machine::{Command, Payload};
 use rly_record::{DecodeFault, read_body, record_len};
 use rly_segment::{
     HeadFault, HeaderFault, NewestFault, newest, read_header, read_placed_head, segment_end,
     segment_place,
 };
-use rly_standing::{OpenFault, Tail};
 use std::alloc::Global;
 
 /// The bytes of a group before its body: the gate and the body's length.
 const GROUP_START: u64 = 5;
 
-/// The bytes of a group before its records: those before its body, and the count.
+/// The bytes of a group before its records: those before its body, and the count in 2.
 const RECORDS: u64 = 7;
 
-/// What a device stands for, and where its journal ends.
+/// The recovered state of a device, and the end of its journal.
 #[derive(Drop)]
 pub(crate) struct Recovered {
     pub(crate) tail: Tail,
     pub(crate) index: Index,
 }
 
-/// Reads what a device stands for: the newest head, and the groups after it up to the first closed gate. No payload by place is
-/// read.
+/// Reads the recovered state: the newest head, and the groups after it up to the first closed gate. Reads no payload by
+/// device address.
 pub(crate) fn recover<D: Disk>(alloc: Global, disk: &mut D) -> Result<Recovered, OpenFault>
-    ensures { MatchResult result (λ found. IsRecovered D.state found.tail found.index disk.old disk.new) (λ fault. IsGivenUp D.state fault disk.old disk.new) }
+    ensures { MatchResult result (λ found. IsRecovered D.state found.tail found.index disk.old disk.new)
+        (λ fault. IsGivenUp D.state fault disk.old disk.new) }
 {
     let mut found = read_newest_head(alloc, disk)?;
     'groups: while replay_group(alloc, disk, &mut found)? {}
     Ok(found)
 }
 
-/// Reads the header and what the newest head holds: what a device without groups stands for.
+/// Reads the header and the newest head: the recovered state of a device without groups.
 fn read_newest_head<D: Disk>(alloc: Global, disk: &mut D) -> Result<Recovered, OpenFault>
-    ensures { MatchResult result (λ found. IsReading D.state found.tail found.index disk.old disk.new) (λ fault. IsGivenUp D.state fault disk.old disk.new) }
+    ensures { MatchResult result (λ found. IsReading D.state found.tail found.index disk.old disk.new)
+        (λ fault. IsGivenUp D.state fault disk.old disk.new) }
 {
     let geometry = match read_header(disk) {
         Ok(geometry) => geometry,
@@ -78,7 +81,7 @@ fn read_newest_head<D: Disk>(alloc: Global, disk: &mut D) -> Result<Recovered, O
     })
 }
 
-/// Makes the commands of the next group again, and says whether there was one.
+/// Replays the commands of the next group, and returns whether there was one.
 fn replay_group<D: Disk>(
     alloc: Global,
     disk: &mut D,
@@ -113,8 +116,8 @@ fn replay_group<D: Disk>(
     Ok(true)
 }
 
-/// Makes the commands of a group at a gate one after the other, and says whether each was accepted. The index has their payloads
-/// where the group has them.
+/// Replays the commands of a group at a gate in order, and returns whether each was accepted. The index has their
+/// payloads at the group's device addresses.
 fn redo(
     alloc: Global,
     index: &mut Index,

@@ -1,15 +1,15 @@
--- The whole root of the quotient is the step, and the digits of `step_of` build the same number.
+-- The integer root of the quotient is the step, and the digits of `step_of` build the same number.
 use Rattle.std.proofs.Common.{◌≡◌, ℕ, zero, suc, ◌+◌, ◌*◌, ◌/◌, ◌^◌, ◌<◌, ◌≤◌, Bool, true, false, nat_le, arith, inl, inr}
 use Rattle.std.proofs.Math.Nat.{div-mul-le_self, mul-le-mul_right, mul-le-mul_left, mul-le-mul, two-pow-succ, le_antisymm}
 use Rattle.std.proofs.lemmas.Nat.{le-div}
 use Rattle.std.proofs.lemmas.Bool.{leb-true, leb-false, le-leb, lt-leb, cases_lt, cases_Bool}
 use Rattle.rly_law.specs.ControlLaw.{IsStep, greatest_passing, step_of}
 
--- what is larger has the larger square
+-- a greater number has a greater square
 square-le : (a b : ℕ) → a ≤ b → a * a ≤ b * b
 square-le a b h = mul-le-mul h h
 
--- a number whose square is below that of the next one is at most it
+-- if e's square is below that of d + 1, then e is at most d
 le_of_square_below_next : (d e : ℕ) → e * e < (d + 1) * (d + 1) → e ≤ d
 le_of_square_below_next d e h =
     elim (cases_lt d e) [ inl above ↦ absurd (too_large above) | inr below ↦ below ]
@@ -20,7 +20,7 @@ le_of_square_below_next d e h =
         let larger : (d + 1) * (d + 1) ≤ e * e = square-le (d + 1) e next in
         omega arith
 
--- the whole root of the quotient is the step
+-- the integer root of the quotient is the step
 pub IsStep-root : (interval count d : ℕ) → 1 ≤ count → d * d ≤ interval * interval / count →
     interval * interval / count < (d + 1) * (d + 1) → IsStep interval count d
 IsStep-root interval count d positive below above = record {
@@ -33,7 +33,8 @@ IsStep-root interval count d positive below above = record {
       le_of_square_below_next d e (omega arith);
 }
 
--- whatever stands at a number that passes, where the number 2 ^ digits above it does not, ends at a number that passes and whose next one does not
+-- the search from a number that passes, with 2 ^ digits above it a number that doesn't, ends at a number that passes
+-- and whose successor doesn't
 greatest_passing-edge : (passes : ℕ → Bool) (digits found : ℕ) → passes found ≡ true → passes (found + 2 ^ digits) ≡ false →
     (passes (greatest_passing passes digits found) ≡ true) × (passes (greatest_passing passes digits found + 1) ≡ false)
 greatest_passing-edge passes zero found here beyond = (here, beyond)
@@ -53,7 +54,7 @@ too_late interval count short positive =
     let counted : 2 ^ 64 * 1 ≤ 2 ^ 64 * count = mul-le-mul_left (2 ^ 64) positive in
     omega arith
 
--- the number that the digits build is the step
+-- the number built from the digits is the step
 pub IsStep-step_of : (interval count : ℕ) → interval < 2 ^ 32 → 1 ≤ count → IsStep interval count (step_of interval count)
 unfolding step_of
 IsStep-step_of interval count short positive =
@@ -72,12 +73,12 @@ IsStep-step_of interval count short positive =
       ];
     }
 
--- one number alone is the greatest
+-- only one number is the greatest
 pub IsStep-unique : (interval count d e : ℕ) → IsStep interval count d → IsStep interval count e → d ≡ e
 IsStep-unique interval count d e first second =
     le_antisymm (second.greatest d first.soon_enough) (first.greatest e second.soon_enough)
 
--- what is the step for more drops is soon enough for fewer
+-- the step for more drops is soon enough for fewer
 pub step-falls : (interval fewer more d e : ℕ) → fewer ≤ more → IsStep interval fewer d → IsStep interval more e → e ≤ d
 step-falls interval fewer more d e less first second =
     let scaled : e * e * fewer ≤ e * e * more = mul-le-mul_left (e * e) less in

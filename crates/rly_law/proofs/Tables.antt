@@ -15,20 +15,20 @@ IsTable-more interval entries step steps there is_step table i below =
       | inr other ↦ get_or-set_other steps entries i step 0 other ∙ table i (omega arith)
     ]
 
--- an entry is its count's step
+-- an entry is the step of its count
 pub IsTable-entry : (interval count : ℕ) (steps : List ℕ) → 1 ≤ count → count ≤ 1024 → IsTable interval 1024 steps
     → get_or steps (count - 1) 0 ≡ step_of interval count
 IsTable-entry interval count steps positive within table =
     let same : count - 1 + 1 ≡ count = omega arith in
     table (count - 1) (omega arith) ∙ (rw same refl)
 
--- so it is the greatest
+-- so it is the greatest such number
 pub IsTable-greatest : (interval count : ℕ) (steps : List ℕ) → interval < 2 ^ 32 → 1 ≤ count → count ≤ 1024
     → IsTable interval 1024 steps → IsStep interval count (get_or steps (count - 1) 0)
 IsTable-greatest interval count steps short positive within table =
     rw (IsTable-entry interval count steps positive within table) (IsStep-step_of interval count short positive)
 
--- and at most the interval
+-- and it is at most the interval
 pub IsTable-within : (interval count : ℕ) (steps : List ℕ) → interval < 2 ^ 32 → 1 ≤ count → count ≤ 1024
     → IsTable interval 1024 steps → get_or steps (count - 1) 0 ≤ interval
 IsTable-within interval count steps short positive within table =

@@ -1,7 +1,7 @@
 -- CoDel's control law (RFC 8289 section 5) over whole numbers.
 use Rattle.std.specs.Prelude.{ℕ, zero, suc, ◌+◌, ◌*◌, ◌^◌, ◌≤◌, Bool, nat_le, if◌then◌else◌}
 
--- d microseconds after drop number count is not later than the RFC's interval / sqrt(count)
+-- d microseconds are at most the RFC's interval / sqrt(count)
 abbrev pub IsSoonEnough : ℕ → ℕ → ℕ → Type 0
 IsSoonEnough interval count d = d * d * count ≤ interval * interval
 
@@ -10,8 +10,7 @@ pub record IsStep (interval count d : ℕ) : Type 0 where
   pub soon_enough : IsSoonEnough interval count d
   pub greatest : (e : ℕ) → IsSoonEnough interval count e → e ≤ d
 
--- the greatest number that passes a test, put together from that many binary digits, the highest
--- first
+-- the greatest number that passes a test, built from the given number of binary digits, the highest first
 abbrev pub greatest_passing : (ℕ → Bool) → ℕ → ℕ → ℕ
 greatest_passing passes zero found = found
 greatest_passing passes (suc digits) found =

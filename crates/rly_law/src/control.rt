@@ -4,12 +4,13 @@ ghost use Rattle.rly_law.specs.ControlLaw.{IsStep, step_of};
 use crate::control_law::{LONGEST_INTERVAL, step};
 use std::marker::Model;
 
-/// The control law at one interval: whoever drops asks it how long after one drop the next is due.
+/// The control law at one interval: a dropper asks it for the time from one drop to the next.
 pub trait Control {
     /// The interval, in microseconds.
     ghost interval: { Self → ℕ };
 
-    /// How long after drop number `count` of a dropping phase the next one is due, in microseconds. It takes no memory.
+    /// Returns the time from drop number `count` of a dropping phase to the next drop, in microseconds. Allocates
+    /// nothing.
     fn step(&self, count: u64) -> u64
         requires { 1 ≤ count }
         ensures greatest { IsStep (interval self.now) count result }
@@ -17,7 +18,7 @@ pub trait Control {
         ensures within { result ≤ interval self.now };
 }
 
-/// The control law, computed for each drop. Contracts see its interval.
+/// The control law, computed at each call. In contracts it is its interval.
 #[derive(Drop)]
 pub struct Plain {
     interval: u64,
@@ -35,7 +36,7 @@ impl Model for Plain {
 }
 
 impl Plain {
-    /// The law at an interval. It takes no memory.
+    /// Returns the law at an interval. Allocates nothing.
     pub fn new(interval: u64) -> Plain
         requires { interval ≤ LONGEST_INTERVAL }
         ensures { result ≡ interval }

@@ -1,9 +1,9 @@
-//! Laws of the definition, each on a function without a body.
+//! Laws of the definition: functions with an empty body whose contract is the law.
 
 ghost use Rattle.std.specs.Prelude.{◌≡◌, ◌<◌, ◌≤◌, ◌^◌};
 ghost use Rattle.rly_law.specs.ControlLaw.{IsStep, step_of};
 
-/// At most one number is the greatest, and it is the one that `step_of` computes.
+/// At most one number is the greatest, and `step_of` computes it.
 pub fn law_step_is_the_only_greatest(interval: u64, count: u64, spacing: u64)
     requires interval { interval < 2 ^ 32 }
     requires count { 1 ≤ count }
@@ -11,7 +11,7 @@ pub fn law_step_is_the_only_greatest(interval: u64, count: u64, spacing: u64)
     ensures { spacing ≡ step_of interval count }
 {}
 
-/// Later drops of one phase never come further apart.
+/// The steps of one phase never grow.
 pub fn law_step_falls(interval: u64, fewer: u64, more: u64)
     requires interval { interval < 2 ^ 32 }
     requires fewer { 1 ≤ fewer }

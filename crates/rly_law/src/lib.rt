@@ -1,11 +1,9 @@
-//! CoDel's control law (RFC 8289 section 5) over whole numbers: how long after one drop the next
-//! one is due.
+//! CoDel's control law (RFC 8289 section 5) in integers: the time from one drop to the next.
 //!
-//! `step` is the greatest whole d with `d * d * count <= interval * interval`, the RFC's
-//! `interval / sqrt(count)` rounded down (`specs/ControlLaw.antt`). It has no floats and takes no
-//! memory. A `Control` is the law at one interval: `Plain` computes each step, and `StepTable` has
-//! the first ones at hand. Callers: `rly_codel`, once for each drop time that it sets, and
-//! `rly_machine`, which keeps a `StepTable`.
+//! `step` returns the RFC's `interval / sqrt(count)` rounded down: the greatest d with `d * d *
+//! count <= interval * interval` (`specs/ControlLaw.antt`); no floats, no allocation. `Control` is
+//! the law at one interval: `Plain` computes each step, `StepTable` caches the first 1,024.
+//! Callers: `rly_codel` for each drop time, and `rly_machine`, which owns a `StepTable`.
 #![tactic(auto)]
 
 mod control;

@@ -4,11 +4,11 @@ use crate::control::Control;
 use crate::control_law::{LONGEST_INTERVAL, step};
 use std::marker::Model;
 
-/// How many steps a table has.
+/// Number of steps in a table.
 const COUNTS: usize = 1_024;
 
-/// The control law with a table of its first steps, for counts 1 to 1,024: dropping phases that last have most of their drops
-/// there. Contracts see its interval, and not that there is a table.
+/// The control law with a table of its steps for counts 1 to 1,024; it computes the others. Most drops of a long
+/// dropping phase use the table. In contracts it is its interval; the table is hidden.
 #[derive(Drop)]
 pub struct StepTable {
     interval: u64,
@@ -28,7 +28,7 @@ impl Model for StepTable {
 }
 
 impl StepTable {
-    /// The law at an interval. It takes no memory.
+    /// Returns the law at an interval. Allocates nothing.
     pub fn new(interval: u64) -> StepTable
         requires { interval ≤ LONGEST_INTERVAL }
         ensures { result ≡ interval }

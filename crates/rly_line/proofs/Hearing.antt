@@ -13,9 +13,9 @@ use Rattle.rly_line.specs.Replies.{ExtendsHistory, entries_of}
 use Rattle.rly_line.specs.Seats.{AreAnsweredWith, Caller, IsAnsweredWith, next_calls}
 use Rattle.rly_line.specs.Submission.{AreNumbered}
 use Rattle.rly_line.proofs.Submitting.{AreOf, length_batch}
-use Rattle.rly_line.proofs.Telling.{entries_after_own}
+use Rattle.rly_line.proofs.ReplyHistories.{entries_after_own}
 
--- what contracts see of a seat at these ends
+-- the model of a seat at these ends
 abbrev pub caller : SeatId → Putter → Hearer → Bool → Caller
 caller seat p h shut = record { of = p.of; replies = h.of; seat = seat; put = p.put; base = h.base; known = h.known; shut = shut; refused = p.refused }
 
@@ -35,7 +35,7 @@ module _ (seat : SeatId) (p q : Putter) (h now : Hearer) (calls more : ℕ) (shu
   grown : calls + more ≡ length q.put
   grown = omega (arith, is.count, count, ap (λ (x : Putter). length x.put) put, length-append p.put (calls_in_batch b), length_batch b)
 
-  -- where none came, it is shut
+  -- if none came, it is shut
   pub seated_shut : IsSeated seat q now (calls + more) true
   seated_shut = record {
     puts = ap (λ (x : Putter). x.seat) put ∙ is.puts;

@@ -2,6 +2,6 @@ pub mod Views
 pub mod Submitting
 pub mod Replying
 pub mod Making
-pub mod Telling
+pub mod ReplyHistories
 pub mod Hearing
 pub mod Closing

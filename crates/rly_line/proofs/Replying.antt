@@ -1,4 +1,4 @@
--- Each step keeps the rule of a line that answers come out of.
+-- Each step keeps the rule of an answer queue.
 use Rattle.std.proofs.Common.{◌≡◌, ◌≢◌, ◌⊎◌, inl, inr, ⊎_elim, ℕ, true, true≢false, Option, Some, None, List, [], ◌∷◌, ◌++◌, append_assoc, append-nil, length, set, sym, refl, ap, ◌∙◌, subst}
 use Rattle.std.specs.List.{zip}
 use Rattle.crossbeam_channel.specs.Fifo.{Pushes, Pops, Forks, Learns, Merges}
@@ -6,8 +6,8 @@ use Rattle.rly_machine.specs.History.{Entry, LegalButForBytes}
 use Rattle.rly_machine.specs.State.{State}
 use Rattle.rly_line.specs.declared.replies.ReplyView.{ReplyView}
 use Rattle.rly_line.specs.Batches.{AnswersView}
-use Rattle.rly_line.specs.HelpersEnds.{IsHeard, both_ends, both_known, silent, telling, hearing}
-use Rattle.rly_line.specs.Replies.{AreBesideReplies, AreReplied, ExtendsHistory, IsBase, IsPrefixOf, IsReplyLine, Tells}
+use Rattle.rly_line.specs.HelpersEnds.{IsHeard, both_ends, both_known, silent_view, replying_view, hearing_view}
+use Rattle.rly_line.specs.Replies.{AreBesideReplies, AreReplied, ExtendsHistory, IsBase, IsPrefixOf, IsReplyLine, ReportsInOrder}
 use Rattle.rly_line.proofs.Views.{at_set, each_set, each_push, alone}
 use mathlib.Core.Option.{some}
 use lib.ListN.{get_elem?}
@@ -15,15 +15,15 @@ use lib.ListN.{get_elem?}
 abbrev Base : Type 0
 Base = Option (State (List ℕ))
 
--- a base that was none, or this one, is this one where some is known
+-- a base that was none, or this one, is this one if some is known
 settled : (base : Base) (a b : State (List ℕ)) → base ≡ Some a → (base ≡ None) ⊎ (base ≡ Some b) → base ≡ Some b
 settled base a b is (inl none) = absurd (let e : None ≡ Some a = sym none ∙ is in cc)
 settled base a b is (inr same) = same
 
--- one more batch of answers was told
+-- one more batch of answers was sent
 tells_more : (seat : ℕ) (base : Base) (known : List Entry) (items : List (Option AnswersView)) (told : List Entry) (given : AnswersView) (start : State (List ℕ)) (history : List Entry)
-    → Tells seat base known items told → (base ≡ None) ⊎ (base ≡ Some start) → LegalButForBytes start history → ExtendsHistory seat told given.answers history
-    → Tells seat (Some start) known (items ++ Some given ∷ []) history
+    → ReportsInOrder seat base known items told → (base ≡ None) ⊎ (base ≡ Some start) → LegalButForBytes start history → ExtendsHistory seat told given.answers history
+    → ReportsInOrder seat (Some start) known (items ++ Some given ∷ []) history
 tells_more seat base known [] told given start history chain same legal next =
     (start, history, refl, legal, subst (λ k. ExtendsHistory seat k given.answers history) (sym chain) next, refl)
 tells_more seat base known (None ∷ items) told given start history chain same legal next = tells_more seat base known items told given start history chain same legal next
@@ -37,21 +37,21 @@ tells_more seat base known (Some x ∷ items) told given start history chain sam
       tells_more seat base chain.1 items told given start history chain.5 same legal next,
     )
 
--- that no more come tells nothing
-tells_end : (seat : ℕ) (base : Base) (known : List Entry) (items : List (Option AnswersView)) (told : List Entry) → Tells seat base known items told
-    → Tells seat base known (items ++ None ∷ []) told
+-- the close has no history
+tells_end : (seat : ℕ) (base : Base) (known : List Entry) (items : List (Option AnswersView)) (told : List Entry) → ReportsInOrder seat base known items told
+    → ReportsInOrder seat base known (items ++ None ∷ []) told
 tells_end seat base known [] told chain = chain
 tells_end seat base known (None ∷ items) told chain = tells_end seat base known items told chain
 tells_end seat base known (Some x ∷ items) told chain = (chain.0, chain.1, chain.2, chain.3, chain.4, tells_end seat base chain.1 items told chain.5)
 
--- where nothing was told, no answers are in the line, whoever's it is
-untold : (seat other : ℕ) (base : Base) (known : List Entry) (items : List (Option AnswersView)) (told : List Entry) → Tells seat base known items told → base ≡ None
-    → Tells other None [] items []
+-- if nothing was sent, no answers are in the queue, whoever's it is
+untold : (seat other : ℕ) (base : Base) (known : List Entry) (items : List (Option AnswersView)) (told : List Entry) → ReportsInOrder seat base known items told → base ≡ None
+    → ReportsInOrder other None [] items []
 untold seat other base known [] told chain none = refl
 untold seat other base known (None ∷ items) told chain none = untold seat other base known items told chain none
 untold seat other base known (Some x ∷ items) told chain none = absurd (let e : None ≡ Some chain.0 = sym none ∙ chain.2 in cc)
 
--- a line begins with nothing told
+-- a new queue has no history
 pub begins : AreReplied [] (both_ends ∷ [])
 begins = (
   0,
@@ -74,12 +74,12 @@ begins = (
   },
 )
 
--- the line's first pass is cut into those of the two ends, which say whose the line is
-pub forks : (pass : ℕ) (v : ReplyView) (seat : ℕ) → v ≡ both_ends → Forks AreReplied pass v (telling seat) (hearing seat)
+-- the queue's first token splits into those of the two ends, which name its seat
+pub forks : (pass : ℕ) (v : ReplyView) (seat : ℕ) → v ≡ both_ends → Forks AreReplied pass v (replying_view seat) (hearing_view seat)
 forks pass v seat is items views rule at =
     let teller = rule.0 in let hearer = rule.1 in let line = rule.6 in
-    let left : ReplyView = telling seat in
-    let right : ReplyView = hearing seat in
+    let left : ReplyView = replying_view seat in
+    let right : ReplyView = hearing_view seat in
     let vs : List ReplyView = set views pass left in
     let t = line.tells pass v at (ap (λ (u : ReplyView). u.tells) is) in
     let h = line.hears pass v at (ap (λ (u : ReplyView). u.hears) is) in
@@ -103,7 +103,7 @@ forks pass v seat is items views rule at =
       },
     )
 
--- a base that is known stays the one of the line
+-- a base that is known stays the one of the queue
 later : (known base : Base) (start : State (List ℕ)) → IsBase known base → (base ≡ None) ⊎ (base ≡ Some start) → IsBase known (Some start)
 later known base start (inl none) was = inl none
 later known base start (inr same) (inl none) = inl (same ∙ none)
@@ -111,7 +111,7 @@ later known base start (inr same) (inr is) = inr (same ∙ is)
 
 -- a view is put back
 again : (teller hearer seat : ℕ) (base : Base) (known told : List Entry) (items now : List (Option AnswersView)) (views : List ReplyView) (pass : ℕ) (v : ReplyView)
-    → IsReplyLine teller hearer seat base known told items views → Tells seat base known now told → get_elem? views pass ≡ some v
+    → IsReplyLine teller hearer seat base known told items views → ReportsInOrder seat base known now told → get_elem? views pass ≡ some v
     → IsReplyLine teller hearer seat base known told now (set views pass v)
 again teller hearer seat base known told items now views pass v line chain at =
     let F : ℕ → ReplyView → Type 0 = λ j u. u.tells ≡ true → (j ≡ teller) × (u.seat ≡ seat) × (u.base ≡ base) × (u.told ≡ told) in
@@ -122,7 +122,7 @@ again teller hearer seat base known told items now views pass v line chain at =
       hears = each_set G views pass v (line.hears pass v at) (λ j u _ e. line.hears j u e);
     }
 
--- it is said that no more answers come
+-- the queue is closed
 pub closes : (n pass : ℕ) (v : ReplyView) → Pushes AreReplied n pass v None (λ w. w ≡ v)
 closes n pass v items views room rule at =
     let line = rule.6 in (
@@ -139,7 +139,7 @@ closes n pass v items views room rule at =
       refl,
     )
 
--- a batch of answers is put, which tells a history
+-- a batch of answers is sent, with a history
 pub puts : (n pass : ℕ) (v : ReplyView) (given : AnswersView) (start : State (List ℕ)) (history : List Entry) → v.tells ≡ true
     → (v.base ≡ None) ⊎ (v.base ≡ Some start) → LegalButForBytes start history → ExtendsHistory v.seat v.told given.answers history
     → Pushes AreReplied n pass v (Some given) (λ w. w ≡ record v { base = Some start; told = history })
@@ -169,7 +169,7 @@ puts n pass v given start history may same legal next items views room rule at =
       refl,
     )
 
--- the seat takes a batch of answers
+-- the seat receives a batch of answers
 pub takes : (pass : ℕ) (v : ReplyView) → v.hears ≡ true
     → Pops AreReplied pass v (λ given w. IsHeard v given w)
 takes pass v may None items views rule at =
@@ -214,8 +214,8 @@ takes pass v may (Some given) items views rule at =
       (refl, record { start = start; same_base = was; base_is = refl; legal = line.chain.3; goes_on = its }),
     )
 
--- what was told last begins with what is known
-told_begins : (seat : ℕ) (base : Base) (known : List Entry) (items : List (Option AnswersView)) (told : List Entry) → Tells seat base known items told
+-- the last history sent begins with the known one
+told_begins : (seat : ℕ) (base : Base) (known : List Entry) (items : List (Option AnswersView)) (told : List Entry) → ReportsInOrder seat base known items told
     → (rest : List Entry) × (told ≡ known ++ rest)
 told_begins seat base known [] told chain = ([], sym chain ∙ sym (append-nil known))
 told_begins seat base known (None ∷ items) told chain = told_begins seat base known items told chain
@@ -240,8 +240,8 @@ reply_law answers views teller hearer rule beside =
       whole = t.3 ∙ begins.1 ∙ ap (λ l. l ++ begins.0) (sym h.2);
     }
 
--- the pass that tells takes in the seat's
-pub merges : (pass : ℕ) (v : ReplyView) (other : ℕ) (u : ReplyView) → v.tells ≡ true → u.hears ≡ true → Merges AreReplied pass v other u (both_known v u) silent
+-- the sender's token absorbs the seat's
+pub merges : (pass : ℕ) (v : ReplyView) (other : ℕ) (u : ReplyView) → v.tells ≡ true → u.hears ≡ true → Merges AreReplied pass v other u (both_known v u) silent_view
 merges pass v other u may theirs items views rule at apart now =
     let teller = rule.0 in let seat = rule.2 in let base = rule.3 in let known = rule.4 in let told = rule.5 in let line = rule.6 in
     let both : ReplyView = both_known v u in
@@ -260,16 +260,16 @@ merges pass v other u may theirs items views rule at apart now =
       told,
       record {
         chain = line.chain;
-        tells = each_set F vs other silent (λ p. absurd (true≢false (sym p)))
+        tells = each_set F vs other silent_view (λ p. absurd (true≢false (sym p)))
             (λ j w _ e. each_set F views pass both (λ _. t) (λ k y _ e' p. line.tells k y e' p) j w e);
-        hears = each_set G vs other silent (λ p. absurd (true≢false (sym p)))
+        hears = each_set G vs other silent_view (λ p. absurd (true≢false (sym p)))
             (λ j w there e. each_set Others views pass both
             (λ _ _. (refl, t.1, h.2, inr t.2, h.3))
             (λ k y _ e' there' p. absurd (there' ((line.hears k y e' p).0 ∙ sym h.0))) j w e there);
       },
     )
 
--- what both tell together
+-- the joined knowledge of both
 pub learns : (pass : ℕ) (v : ReplyView) → v.tells ≡ true → v.hears ≡ true → Learns AreReplied pass v (λ items. IsPrefixOf v.base_before v.base v.known v.told)
 learns pass v may hears items views rule at =
     let line = rule.6 in
@@ -287,7 +287,7 @@ base_before_that a b c (inl none) is = inl none
 base_before_that a b c (inr same) (inl none) = inl (same ∙ none)
 base_before_that a b c (inr same) (inr is) = inr (same ∙ is)
 
--- what was known before what is known is a prefix too
+-- the history known before the known one is a prefix too
 pub before_that : (a b c : Base) (earlier known told : List Entry) → IsPrefixOf a b earlier known → IsPrefixOf b c known told → IsPrefixOf a c earlier told
 before_that a b c earlier known told was is = record {
   same_base = base_before_that a b c was.same_base is.same_base;

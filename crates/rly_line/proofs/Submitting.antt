@@ -1,4 +1,4 @@
--- Each step keeps the rule of the line that batches go into.
+-- Each step keeps the rule of the submission queue.
 use Rattle.std.proofs.Common.{◌≡◌, ◌≢◌, ◌==◌, ℕ, suc, ◌+◌, ◌<◌, ◌≤◌, true, true≢false, cond, List, [], ◌∷◌, ◌++◌, length, set, sym, refl, ap, ◌∙◌, subst, append_assoc, append-nil, eq-eqb, ne_eqb, lt_of_not-le, length-append, ⊎_elim, arith}
 use Rattle.std.specs.List.{AllByRecursion}
 use Rattle.std.specs.Prelude.{Option, Some, None, IfSome}
@@ -14,7 +14,7 @@ use Rattle.rly_machine.specs.declared.call.SeatId.{SeatId}
 use Rattle.rly_machine.specs.declared.command.Ask.{Ask}
 use Rattle.rly_line.specs.declared.submission.LineView.{LineView}
 use Rattle.rly_line.specs.Batches.{BatchView, HasAsks, calls_after, calls_in_batch, calls_in_line, calls_put}
-use Rattle.rly_line.specs.HelpersEnds.{IsTaken, idle, taking, together, putting}
+use Rattle.rly_line.specs.HelpersEnds.{IsTaken, idle_view, taking_view, merged_view, putting_view}
 use Rattle.rly_line.specs.Submission.{AreBeside, calls_of, AreNumbered, AreLined, IsLine}
 use Rattle.rly_line.proofs.Views.{alone, at_set, each_set, each_push}
 
@@ -22,7 +22,7 @@ use Rattle.rly_line.proofs.Views.{alone, at_set, each_set, each_push}
 abbrev pub AreOf : ℕ → List Call → Type 0
 AreOf seat calls = AllByRecursion (λ (c : Call). c.seat.0 ≡ seat) calls
 
--- the calls of a batch are of its seat, numbered one after another, and as many as its asks
+-- the calls of a batch are of its seat, numbered consecutively, and as many as its asks
 pub after_own : (seat : SeatId) (last : ℕ) (asks : List Ask) → AreOf seat.0 (calls_after seat last asks)
 after_own seat last [] = tt
 after_own seat last (ask ∷ asks) = (refl, after_own seat (last + 1) asks)
@@ -83,7 +83,7 @@ pub numbered_between : (xs ys zs : List Call) → AreNumbered 0 ((xs ++ ys) ++ z
 numbered_between xs ys zs all =
     let e : 0 + length xs ≡ length xs = omega arith in subst (λ n. AreNumbered n ys) e (numbered_back 0 xs ys (numbered_front 0 (xs ++ ys) zs all))
 
--- the numbers of a batch that has an ask tell how many calls were before it
+-- the numbers of a batch that has an ask give the number of calls before it
 begins_at : (last : ℕ) (seat : SeatId) (before : ℕ) (asks : List Ask) → 1 ≤ length asks → AreNumbered last (calls_after seat before asks) → before ≡ last
 begins_at last seat before [] asked numbered = absurd (omega (arith, asked))
 begins_at last seat before (ask ∷ asks) asked numbered = omega (arith, numbered.0)
@@ -101,7 +101,7 @@ pub numbered_more : (seat : ℕ) (calls : List Call) (b : BatchView) → AreNumb
     → (b.seat.0 ≡ seat → b.before ≡ length (calls_of seat calls)) → AreNumbered 0 (calls_of seat (calls ++ calls_in_batch b))
 numbered_more seat calls b numbered next = numbered_by seat calls b numbered next (ℕ_discrete b.seat.0 seat)
 
--- what holds of each put holds with one more
+-- a property of each submission holds with one more
 all_more : (P : Option BatchView → Type 0) (puts : List (Option BatchView)) (put : Option BatchView) → AllByRecursion P puts → P put → AllByRecursion P (puts ++ put ∷ [])
 all_more P [] put all one = (one, tt)
 all_more P (x ∷ xs) put all one = (all.0, all_more P xs put all.1 one)
@@ -110,7 +110,7 @@ all_more P (x ∷ xs) put all one = (all.0, all_more P xs put all.1 one)
 abbrev Asks : Option BatchView → Type 0
 Asks = λ put. IfSome put HasAsks
 
--- views stay where one is put back, and so does the rule of the calls
+-- views stay if one is put back, and so does the rule of the calls
 again : (owner : ℕ → ℕ) (head count : ℕ) (gone items now : List Call) (views : List LineView) (pass : ℕ) (v : LineView) → IsLine owner head count gone items views → items ≡ now
     → get_elem? views pass ≡ some v → IsLine owner head count gone now (set views pass v)
 again owner head count gone items now views pass v line same at =
@@ -124,8 +124,8 @@ again owner head count gone items now views pass v line same at =
       takes = each_set Takes views pass v (kept.takes pass v at) (λ j u _ e. kept.takes j u e);
     }
 
--- the line begins with no call and no seat
-pub begins : AreLined [] (taking 0 [] ∷ [])
+-- the queue begins with no call and no seat
+pub begins : AreLined [] (taking_view 0 [] ∷ [])
 begins = (
   (λ _. 0),
   0,
@@ -134,13 +134,13 @@ begins = (
   record {
     seated = λ _ _. refl;
     numbered = λ _. tt;
-    puts = λ pass v at p. let one = alone (taking 0 []) v pass at in absurd (true≢false (sym p ∙ ap (λ (u : LineView). u.puts) (sym one.1)));
-    takes = λ pass v at t. let one = alone (taking 0 []) v pass at in (one.0, ap (λ (u : LineView). u.seats) (sym one.1), ap (λ (u : LineView). u.taken) (sym one.1));
+    puts = λ pass v at p. let one = alone (taking_view 0 []) v pass at in absurd (true≢false (sym p ∙ ap (λ (u : LineView). u.puts) (sym one.1)));
+    takes = λ pass v at t. let one = alone (taking_view 0 []) v pass at in (one.0, ap (λ (u : LineView). u.seats) (sym one.1), ap (λ (u : LineView). u.taken) (sym one.1));
   },
   tt,
 )
 
--- a seat puts its next batch
+-- a seat submits its next batch
 pub puts : (n pass : ℕ) (v : LineView) (b : BatchView) → v.puts ≡ true → b.seat.0 ≡ v.seat → b.before ≡ length v.put → HasAsks b
     → Pushes AreLined n pass v (Some b) (λ w. w ≡ record v { put = v.put ++ calls_in_batch b })
 puts n pass v b may mine next asks items views room rule at =
@@ -193,12 +193,12 @@ leaves n pass v items views room rule at =
       refl,
     )
 
--- a seat that has calls is there
+-- a seat that has calls exists
 there : (count seat : ℕ) (calls : List Call) → (count ≤ seat → calls ≡ []) → 1 ≤ length calls → Dec (count ≤ seat) → seat < count
 there count seat calls none asked (no here) = lt_of_not-le here
 there count seat calls none asked (yes past) = absurd (omega (arith, asked, ap length (none past)))
 
--- the head takes the first batch of the line, which is its seat's next
+-- the head receives the first batch of the queue, which is its seat's next
 pub takes : (pass : ℕ) (v : LineView) → v.takes ≡ true → Pops AreLined pass v (λ put w. IsTaken v put w)
 takes pass v may None items views rule at =
     let same : calls_in_line (None ∷ items) ≡ calls_in_line items = flat_map-cons calls_put None items in (
@@ -265,12 +265,12 @@ takes pass v may (Some b) items views rule at =
       ),
     )
 
--- a pass of a new seat is cut from the one that takes
-pub forks : (pass : ℕ) (v : LineView) → v.takes ≡ true → Forks AreLined pass v (record v { seats = v.seats + 1 }) (putting v.seats [])
+-- the token of a new seat is split from the receiver's
+pub forks : (pass : ℕ) (v : LineView) → v.takes ≡ true → Forks AreLined pass v (record v { seats = v.seats + 1 }) (putting_view v.seats [])
 forks pass v may items views rule at =
     let owner = rule.0 in let head = rule.1 in let count = rule.2 in let gone = rule.3 in let line = rule.4 in
     let left : LineView = record v { seats = v.seats + 1 } in
-    let right : LineView = putting v.seats [] in
+    let right : LineView = putting_view v.seats [] in
     let vs : List LineView = set views pass left in
     let mine = line.takes pass v at may in
     let known : ℕ → ℕ = λ seat. cond (seat == count) (length vs) (owner seat) in
@@ -298,11 +298,11 @@ forks pass v may items views rule at =
       rule.5,
     )
 
--- the pass that takes is put together with a seat's
-pub merges : (pass : ℕ) (v : LineView) (other : ℕ) (u : LineView) → v.takes ≡ true → u.puts ≡ true → Merges AreLined pass v other u (together v u) idle
+-- the receiver's token is joined with a seat's
+pub merges : (pass : ℕ) (v : LineView) (other : ℕ) (u : LineView) → v.takes ≡ true → u.puts ≡ true → Merges AreLined pass v other u (merged_view v u) idle_view
 merges pass v other u may theirs items views rule at apart now =
     let owner = rule.0 in let head = rule.1 in let count = rule.2 in let gone = rule.3 in let line = rule.4 in
-    let both : LineView = together v u in
+    let both : LineView = merged_view v u in
     let vs : List LineView = set views pass both in
     let mine = line.takes pass v at may in
     let was : get_elem? views other ≡ some u = ⊎_elim (λ x. absurd (apart x.0)) (λ x. x.1) (at_set views pass other both u now) in
@@ -323,22 +323,22 @@ merges pass v other u may theirs items views rule at apart now =
       record {
         seated = line.seated;
         numbered = line.numbered;
-        puts = each_set Puts vs other idle (λ p. absurd (true≢false (sym p)))
+        puts = each_set Puts vs other idle_view (λ p. absurd (true≢false (sym p)))
             (λ j w there e. each_set Others views pass both
             (λ _ _. (ap (λ b. cond b pass (owner u.seat)) (eq-eqb u.seat u.seat refl), its.1, its.2))
             (λ k y _ e' there' p. old k y e' there' p) j w e there);
-        takes = each_set Takes vs other idle (λ t. absurd (true≢false (sym t)))
+        takes = each_set Takes vs other idle_view (λ t. absurd (true≢false (sym t)))
             (λ j w _ e. each_set Takes views pass both (λ _. mine) (λ k y _ e' t. line.takes k y e' t) j w e);
       },
       rule.5,
     )
 
--- and cut again
-pub parts : (pass : ℕ) (v : LineView) → v.takes ≡ true → v.puts ≡ true → Forks AreLined pass v (taking v.seats v.taken) (putting v.seat v.put)
+-- and split again
+pub parts : (pass : ℕ) (v : LineView) → v.takes ≡ true → v.puts ≡ true → Forks AreLined pass v (taking_view v.seats v.taken) (putting_view v.seat v.put)
 parts pass v may puts items views rule at =
     let owner = rule.0 in let head = rule.1 in let count = rule.2 in let gone = rule.3 in let line = rule.4 in
-    let left : LineView = taking v.seats v.taken in
-    let right : LineView = putting v.seat v.put in
+    let left : LineView = taking_view v.seats v.taken in
+    let right : LineView = putting_view v.seat v.put in
     let vs : List LineView = set views pass left in
     let mine = line.takes pass v at may in
     let its = line.puts pass v at puts in
@@ -364,13 +364,13 @@ parts pass v may puts items views rule at =
       rule.5,
     )
 
--- what both tell together
+-- the joined knowledge of both
 pub learns : (pass : ℕ) (v : LineView) → v.takes ≡ true → v.puts ≡ true → Learns AreLined pass v (λ puts. calls_of v.seat (v.taken ++ calls_in_line puts) ≡ v.put)
 learns pass v may puts items views rule at =
     let line = rule.4 in
     ap (λ l. calls_of v.seat (l ++ calls_in_line items)) (line.takes pass v at may).2 ∙ (line.puts pass v at puts).2
 
--- so the calls taken are a beginning
+-- so the calls received are a prefix
 pub beginning : (seat : ℕ) (taken items put : List Call) → calls_of seat (taken ++ items) ≡ put → put ≡ calls_of seat taken ++ calls_of seat items
 beginning seat taken items put is = sym is ∙ filter-append (λ (c : Call). c.seat.0 == seat) taken items
 

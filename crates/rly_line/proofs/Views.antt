@@ -1,10 +1,10 @@
--- What holds of each pass's view after one was changed, or one was added.
+-- The properties of each token's view after one was changed, or one was added.
 use Rattle.std.proofs.Common.{◌≡◌, ◌≢◌, ℕ, zero, suc, List, [], ◌∷◌, ◌++◌, length, set, refl, ap, sym, subst, ⊎_elim, ◌⊎◌, inl, inr, arith}
 use mathlib.Core.Option.{some, some-injective, some-ne-none}
 use lib.ListN.{get_elem?}
 
 module _ {V : Type 0} where
-  -- of each pass
+  -- of each token
   abbrev pub Each : (ℕ → V → Type 0) → List V → Type 0
   Each F views = (pass : ℕ) (v : V) → get_elem? views pass ≡ some v → F pass v
 
@@ -34,7 +34,7 @@ module _ {V : Type 0} where
       (λ (x : get_elem? views j ≡ some u). old j u x)
       (λ (x : (j ≡ length views) × (w ≡ u)). subst (λ (y : ℕ × V). F y.0 y.1) (λ i. (sym x.0 i, x.1 i)) new) (at_push views w u j e)
 
-  -- there is one pass at first
+  -- there is one token at first
   pub alone : (v u : V) (j : ℕ) → get_elem? (v ∷ []) j ≡ some u → (j ≡ 0) × (v ≡ u)
   alone v u zero e = (refl, some-injective v u e)
   alone v u (suc j) e = absurd (some-ne-none u (sym e))

@@ -1,8 +1,8 @@
 pub mod Batches
 pub mod Submission
 pub mod Replies
-pub mod Story
+pub mod GhostHistory
 pub mod Seats
 pub mod HelpersEnds
 pub mod EndViews
-pub mod Responding
+pub mod ResponderView

@@ -1,6 +1,6 @@
--- A line that one seat's answers come out of, batch by batch, under one rule: it was told a base state and histories,
--- each made of the one before, of calls of other seats and then the calls of its seat's next batch. What the seat knows
--- is the last one that it took. The last word in a line is that no more answers come.
+-- The queue of one seat's answers, batch by batch, under one rule: the sender sent a base state and histories, each
+-- of which extends the one before by calls of other seats and then the calls of its seat's next batch. The seat
+-- knows the last one that it received. The last element of a queue is its close.
 use Rattle.std.specs.Prelude.{ℕ, ◌≡◌, ◌⊎◌, ◌==◌, List, [], ◌∷◌, ◌++◌, Bool, true, Option, Some, None, filter, length}
 use Rattle.std.specs.List.{AllByRecursion, zip}
 use mathlib.Core.Option.{some}
@@ -20,7 +20,7 @@ use Rattle.rly_line.specs.Submission.{AreNumbered}
 abbrev pub entries_of : ℕ → List Entry → List Entry
 entries_of seat history = filter (λ entry. entry.0.seat.0 == seat) history
 
--- a history goes on: calls of other seats, and then the seat's next calls, one after another, each with its answer
+-- an extended history: calls of other seats, and then the seat's next calls, consecutively, each with its answer
 pub record ExtendsHistory (seat : ℕ) (before : List Entry) (answers : List Answer) (after : List Entry) : Type 0 where
   pub between : List Entry
   pub calls : List Call
@@ -30,7 +30,7 @@ pub record ExtendsHistory (seat : ℕ) (before : List Entry) (answers : List Ans
   pub own : AllByRecursion (λ call. call.seat.0 ≡ seat) calls
   pub numbers : AreNumbered (length (entries_of seat before)) calls
 
--- which line it is, as the channel names itself
+-- the identity of the queue, as the channel names it
 pub record ReplyId : Type 0 where
   pub table : TableId
   pub key : Badge (Key (Option AnswersView))
@@ -39,35 +39,36 @@ pub record ReplyId : Type 0 where
 abbrev pub IsBase : Option (State (List ℕ)) → Option (State (List ℕ)) → Type 0
 IsBase known base = (known ≡ None) ⊎ (known ≡ base)
 
--- what contracts see of its end that tells
-pub record Teller : Type 0 where
+-- the model of its sending end
+pub record ReplyEndView : Type 0 where
   pub of : Option ReplyId
   pub seat : ℕ
-  -- so many batches of answers the line holds
+  -- the queue holds this many batches of answers
   pub capacity : ℕ
   pub base : Option (State (List ℕ))
   pub told : List Entry
   pub gone : Bool
 
--- a history from a base state may be told with these answers
-pub record MayTell (t : Teller) (start : State (List ℕ)) (answers : List Answer) (history : List Entry) : Type 0 where
+-- a history from a base state may be sent with these answers
+pub record MayReport (t : ReplyEndView) (start : State (List ℕ)) (answers : List Answer)
+    (history : List Entry) : Type 0 where
   pub base : (t.base ≡ None) ⊎ (t.base ≡ Some start)
   pub legal : LegalButForBytes start history
   pub goes_on : ExtendsHistory t.seat t.told answers history
 
--- what is in a line: batches of answers, each of which tells a history that goes on from the one before, from what is
--- known to what was told last; and that no more come, which tells nothing
-abbrev pub Tells : ℕ → Option (State (List ℕ)) → List Entry → List (Option AnswersView) → List Entry → Type 0
-Tells seat base known [] told = known ≡ told
-Tells seat base known (None ∷ more) told = Tells seat base known more told
-Tells seat base known (Some given ∷ more) told =
+-- the elements of a queue: batches of answers, each with a history that extends the one before, from the known one
+-- to the one last sent; and the close, which has none
+abbrev pub ReportsInOrder : ℕ → Option (State (List ℕ)) → List Entry → List (Option AnswersView) → List Entry → Type 0
+ReportsInOrder seat base known [] told = known ≡ told
+ReportsInOrder seat base known (None ∷ more) told = ReportsInOrder seat base known more told
+ReportsInOrder seat base known (Some given ∷ more) told =
     (start : State (List ℕ)) × (history : List Entry) × (base ≡ Some start) × LegalButForBytes start history
-    × ExtendsHistory seat known given.answers history × Tells seat base history more told
+    × ExtendsHistory seat known given.answers history × ReportsInOrder seat base history more told
 
--- what holds of what is in the line and of what each pass knows, where these passes tell and hear
+-- the invariant of the queue's elements and the tokens' knowledge, given the sender's and the receiver's tokens
 pub record IsReplyLine (teller hearer seat : ℕ) (base : Option (State (List ℕ))) (known told : List Entry)
     (items : List (Option AnswersView)) (views : List ReplyView) : Type 0 where
-  pub chain : Tells seat base known items told
+  pub chain : ReportsInOrder seat base known items told
   pub tells : (pass : ℕ) (v : ReplyView) → get_elem? views pass ≡ some v → v.tells ≡ true
       → (pass ≡ teller) × (v.seat ≡ seat) × (v.base ≡ base) × (v.told ≡ told)
   pub hears : (pass : ℕ) (v : ReplyView) → get_elem? views pass ≡ some v → v.hears ≡ true
@@ -79,7 +80,7 @@ AreReplied items views =
     (teller : ℕ) × (hearer : ℕ) × (seat : ℕ) × (base : Option (State (List ℕ)))
     × (known : List Entry) × (told : List Entry) × IsReplyLine teller hearer seat base known told items views
 
--- the views of one line at one moment: that of the pass that tells, and that of the seat's pass
+-- the models of one queue at one moment: that of the sender's token, and that of the seat's
 pub record AreBesideReplies (views : List ReplyView) (teller hearer : ReplyView) : Type 0 where
   pub tells_at : ℕ
   pub hears_at : ℕ
@@ -88,7 +89,7 @@ pub record AreBesideReplies (views : List ReplyView) (teller hearer : ReplyView)
   pub tells : teller.tells ≡ true
   pub hears : hearer.hears ≡ true
 
--- what a seat knows is a prefix of a history, from a base that is the same where it knows one
+-- the history that a seat knows is a prefix of a history, from the same base, if it knows one
 pub record IsPrefixOf (known_base base : Option (State (List ℕ))) (known history : List Entry) : Type 0 where
   pub same_base : IsBase known_base base
   pub rest : List Entry

@@ -1,5 +1,5 @@
--- The line that batches of calls go into, under one rule: of each seat, the calls that were taken, and after them those
--- in the line, are those that it put. A seat that leaves says so in the line.
+-- The submission queue, under one rule: for each seat, the calls received, followed by those in the queue, are the
+-- calls that it submitted. A seat that leaves puts that into the queue.
 use Rattle.std.specs.Prelude.{ℕ, ◌≡◌, ◌+◌, ◌<◌, ◌≤◌, ◌==◌, List, [], ◌∷◌, ◌++◌, true, filter, length}
 use Rattle.std.specs.Prelude.{Option, IfSome}
 use Rattle.std.specs.List.{AllByRecursion}
@@ -21,8 +21,8 @@ abbrev pub AreNumbered : ℕ → List Call → Type 0
 AreNumbered last [] = Unit {0}
 AreNumbered last (call ∷ calls) = (call.number ≡ last + 1) × AreNumbered (last + 1) calls
 
--- what holds of the calls in the line and of what each pass knows, where each seat has its owner's pass, the head is
--- the pass that takes, and these calls were taken
+-- the invariant of the calls in the queue and the tokens' knowledge, if each seat's owner has its token, the head
+-- is the receiver's token, and these calls were received
 pub record IsLine (owner : ℕ → ℕ) (head count : ℕ) (gone items : List Call) (views : List LineView) : Type 0 where
   pub seated : (seat : ℕ) → count ≤ seat → calls_of seat (gone ++ items) ≡ []
   pub numbered : (seat : ℕ) → AreNumbered 0 (calls_of seat (gone ++ items))
@@ -31,24 +31,24 @@ pub record IsLine (owner : ℕ → ℕ) (head count : ℕ) (gone items : List Ca
   pub takes : (pass : ℕ) (v : LineView) → get_elem? views pass ≡ some v → v.takes ≡ true
       → (pass ≡ head) × (v.seats ≡ count) × (v.taken ≡ gone)
 
--- the rule, of what is in the line: of its calls, one after another; and each batch has an ask
+-- the rule, over the elements of the queue: over its calls, consecutively; and each batch has an ask
 abbrev pub AreLined : List (Option BatchView) → List LineView → Type 0
 AreLined puts views =
     (owner : ℕ → ℕ) × (head : ℕ) × (count : ℕ) × (gone : List Call)
     × IsLine owner head count gone (calls_in_line puts) views × AllByRecursion (λ put. IfSome put HasAsks) puts
 
--- which line it is, as the channel names itself
+-- the identity of the queue, as the channel names it
 pub record LineId : Type 0 where
   pub table : TableId
   pub key : Badge (Key (Option BatchView))
 
--- a batch is the next of its seat, one of so many, after the calls that were taken
+-- a batch is the next of its seat, one of this many, after the calls received
 pub record IsNext (seats : ℕ) (taken : List Call) (batch : BatchView) : Type 0 where
   pub seat : batch.seat.0 < seats
   pub before : batch.before ≡ length (calls_of batch.seat.0 taken)
   pub asks : HasAsks batch
 
--- the views of one line at one moment: that of the pass that takes, and that of a seat's pass
+-- the models of one queue at one moment: that of the receiver's token, and that of a seat's
 pub record AreBeside (views : List LineView) (taker putter : LineView) : Type 0 where
   pub head : ℕ
   pub owner : ℕ
@@ -57,6 +57,6 @@ pub record AreBeside (views : List LineView) (taker putter : LineView) : Type 0 
   pub takes : taker.takes ≡ true
   pub puts : putter.puts ≡ true
 
--- of a seat's calls, those that were taken are a beginning, ask for ask, of those that it put
+-- the calls received from a seat are a prefix, ask for ask, of those that it submitted
 abbrev pub IsBeginning : ℕ → List Call → List Call → Type 0
 IsBeginning seat taken put = (left : List Call) × (put ≡ calls_of seat taken ++ left)

@@ -1,16 +1,16 @@
-//! What goes through the lines: asks of one seat that are put together, and their answers, which
-//! come back together in the same memory.
+//! The elements of the queues: asks of one seat that are submitted together, and their answers,
+//! which return together in the same memory.
 
 ghost use Rattle.std.specs.Prelude.{◌≡◌, ◌+◌, ◌<◌, ◌≤◌, ◌^◌, ◌∷◌, ◌++◌, [], drop, length, take, vec_capacity};
 ghost use Rattle.rly_core.specs.Bounds.{IsIn};
 ghost use Rattle.rly_line.specs.Batches.{calls_in_batch, no_answers};
-ghost use Rattle.rly_line.specs.HelpersEnds.{AreEmpty, HasRoom};
+ghost use Rattle.rly_line.specs.HelpersEnds.{AreEmpty, HasBatchRoom};
 
 use rly_machine::{Answer, Ask, Call, SeatId};
 use std::marker::Model;
 
-/// Asks of one seat that are put together: 1 to 64. Contracts see whose they are, how many calls the seat put before,
-/// and the asks.
+/// Asks of one seat that are submitted together: 1 to 64. The model: the seat, the number of calls that it
+/// submitted before, and the asks.
 #[derive(Drop)]
 pub struct Batch {
     seat: SeatId,
@@ -23,23 +23,24 @@ impl Model for Batch {
     ghost use Rattle.std.specs.Prelude.{◌≡◌, ◌+◌, ◌≤◌, ◌^◌, [], length};
     ghost use Rattle.rly_core.specs.Bounds.{IsIn};
     ghost use Rattle.rly_line.specs.Batches.{BatchView};
-    ghost use Rattle.rly_line.specs.HelpersEnds.{HasRoom};
+    ghost use Rattle.rly_line.specs.HelpersEnds.{HasBatchRoom};
 
     ghost Value = { BatchView };
 
     ghost view = { λ b. record { seat = b.seat; before = b.before; asks = b.asks.items } };
 
-    ghost invariant = { λ b. IsIn 1 64 (length b.asks.items) × (b.before + length b.asks.items ≤ 2 ^ 52) × (b.answers.items ≡ [])
-        × HasRoom b.asks b.answers };
+    ghost invariant = { λ b. IsIn 1 64 (length b.asks.items) × (b.before + length b.asks.items ≤ 2 ^ 52)
+        × (b.answers.items ≡ [])
+        × HasBatchRoom b.asks b.answers };
 }
 
 impl Batch {
-    /// These asks of a seat, which put so many calls before, and an empty list for their answers.
+    /// These asks of a seat, which submitted `before` calls earlier, and an empty list for their answers.
     pub(crate) fn new(seat: SeatId, before: u64, asks: Vec<Ask>, answers: Vec<Answer>) -> Batch
         requires count { IsIn 1 64 (length asks.items) }
         requires numbers { before + length asks.items ≤ 2 ^ 52 }
         requires empty { answers.items ≡ [] }
-        requires room { HasRoom asks answers }
+        requires room { HasBatchRoom asks answers }
         ensures { result ≡ record { seat = seat; before = before; asks = asks.items } }
     {
         Batch {
@@ -50,7 +51,7 @@ impl Batch {
         }
     }
 
-    /// How many asks it has.
+    /// The number of asks.
     pub fn len(&self) -> usize
         ensures count { result ≡ length self.now.asks }
         ensures some { IsIn 1 64 result }
@@ -58,8 +59,8 @@ impl Batch {
         self.asks.len()
     }
 
-    /// Moves its calls, one for each ask, to the end of a list that has room for them. What is left is where their
-    /// answers go.
+    /// Moves its calls, one for each ask, to the end of a list that has room for them. Returns the destination of
+    /// their answers.
     pub fn into_calls(self, calls: &mut Vec<Call>) -> Answers
         requires room { length calls.old.items + length self.asks ≤ vec_capacity calls.old }
         ensures calls { calls.new.items ≡ calls.old.items ++ calls_in_batch self }
@@ -90,7 +91,7 @@ impl Batch {
     pub(crate) fn into_lists(self) -> (Vec<Ask>, Vec<Answer>)
         ensures asks { result.0.items ≡ self.asks }
         ensures answers { result.1.items ≡ [] }
-        ensures room { HasRoom result.0 result.1 }
+        ensures room { HasBatchRoom result.0 result.1 }
     {
         let Batch {
             seat: _seat,
@@ -102,8 +103,8 @@ impl Batch {
     }
 }
 
-/// Answers to the asks of a batch, in order. Contracts see whose they are, how many there are to be, and those that
-/// are there.
+/// Answers to the asks of a batch, in order. The model: the seat, the number of answers expected, and those that
+/// are present.
 #[derive(Drop)]
 pub struct Answers {
     seat: SeatId,
@@ -116,31 +117,32 @@ impl Model for Answers {
     ghost use Rattle.std.specs.Prelude.{◌≡◌, ◌≤◌, [], length};
     ghost use Rattle.rly_core.specs.Bounds.{IsIn};
     ghost use Rattle.rly_line.specs.Batches.{AnswersView};
-    ghost use Rattle.rly_line.specs.HelpersEnds.{HasRoom};
+    ghost use Rattle.rly_line.specs.HelpersEnds.{HasBatchRoom};
 
     ghost Value = { AnswersView };
 
     ghost view = { λ a. record { seat = a.seat; wanted = a.wanted; answers = a.answers.items } };
 
-    ghost invariant = { λ a. IsIn 1 64 a.wanted × (length a.answers.items ≤ a.wanted) × (a.asks.items ≡ []) × HasRoom a.asks a.answers };
+    ghost invariant = { λ a. IsIn 1 64 a.wanted × (length a.answers.items ≤ a.wanted) × (a.asks.items ≡ [])
+        × HasBatchRoom a.asks a.answers };
 }
 
 impl Answers {
-    /// Whose they are.
+    /// The seat of these answers.
     pub fn seat(&self) -> SeatId
         ensures { result ≡ self.now.seat }
     {
         self.seat
     }
 
-    /// How many there are.
+    /// The number of answers present.
     pub fn len(&self) -> usize
         ensures { result ≡ length self.now.answers }
     {
         self.answers.len()
     }
 
-    /// How many there are to be.
+    /// The number of answers expected.
     pub fn wanted(&self) -> usize
         ensures count { result ≡ self.now.wanted }
         ensures some { IsIn 1 64 result }
@@ -148,7 +150,7 @@ impl Answers {
         self.wanted
     }
 
-    /// Moves as many answers here as there are to be, from the beginning of a list.
+    /// Moves the expected number of answers here, from the front of a list.
     pub fn fill(self, given: &mut Vec<Answer>) -> Answers
         requires none { self.answers ≡ [] }
         requires enough { self.wanted ≤ length given.old.items }
@@ -177,7 +179,7 @@ impl Answers {
     pub(crate) fn into_lists(self) -> (Vec<Ask>, Vec<Answer>)
         ensures asks { result.0.items ≡ [] }
         ensures answers { result.1.items ≡ self.answers }
-        ensures room { HasRoom result.0 result.1 }
+        ensures room { HasBatchRoom result.0 result.1 }
     {
         let Answers {
             seat: _seat,

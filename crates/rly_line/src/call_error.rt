@@ -1,19 +1,19 @@
 use rly_machine::Ask;
 
-/// Why a call has no answer.
+/// The error of a call without an answer.
 #[derive(Debug, Drop)]
 pub enum CallError {
-    /// The call was not put, and is handed back.
+    /// The call was not submitted, and is handed back.
     Closed(Ask),
-    /// The call was put and no answer came: it may or may not stand.
+    /// The call was submitted and no answer came: it may or may not take effect.
     Lost,
 }
 
-/// Why a batch has no answers.
+/// The error of a batch without answers.
 #[derive(Debug, Drop)]
 pub enum BatchError {
-    /// None of its asks was put.
+    /// None of its asks was submitted.
     Closed,
-    /// They were put and no answers came: they may or may not stand, those before others first.
+    /// They were submitted and no answers came: a prefix of them, maybe empty, takes effect.
     Lost,
 }

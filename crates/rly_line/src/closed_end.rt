@@ -1,18 +1,18 @@
 ghost use Rattle.std.specs.Prelude.{◌≡◌};
 ghost use Rattle.rly_line.specs.EndViews.{names_of};
-ghost use Rattle.rly_line.specs.Responding.{IsSeatOf, IsToldBy};
+ghost use Rattle.rly_line.specs.ResponderView.{IsSeatOf, IsReportedBy};
 
 use crate::left_seat::LeftSeat;
-use crate::replies::TellEnd;
+use crate::replies::ReplyEnd;
 use crate::submission::TakenEnd;
 use std::marker::Model;
 
-/// The other end of all seats' lines once it takes no more calls and tells no more, for laws alone. Contracts see which line
-/// it took calls from, the calls that were taken, and what each seat's line was told.
+/// The receiving end of all queues once it is closed, for laws only. The model: the queue from which it received,
+/// the calls received, and the history sent to each seat.
 #[derive(Drop)]
 pub struct ClosedEnd {
     calls: TakenEnd,
-    replies: Vec<TellEnd>,
+    replies: Vec<ReplyEnd>,
 }
 
 impl Model for ClosedEnd {
@@ -24,19 +24,20 @@ impl Model for ClosedEnd {
 }
 
 impl ClosedEnd {
-    /// The end of these lines.
-    pub(crate) fn new(calls: TakenEnd, replies: Vec<TellEnd>) -> ClosedEnd
+    /// The closed end of these queues.
+    pub(crate) fn new(calls: TakenEnd, replies: Vec<ReplyEnd>) -> ClosedEnd
         ensures { result ≡ record { of = calls.of; taken = calls.taken; lines = replies.items } }
     {
         ClosedEnd { calls, replies }
     }
 
-    /// What is true of a seat that was left, beside the end of its lines: of the calls that it put, those that were taken are a
-    /// prefix, ask for ask; and what it knows is a prefix of what its line was told. What is left of the seat is used up.
+    /// The law of a seat that left, with the closed end of its queues: the calls received are a prefix of the calls
+    /// that it submitted, ask for ask; and the history that it knows is a prefix of the one sent to it. Consumes
+    /// the seat's remains.
     pub fn law_left(&mut self, seat: LeftSeat)
         requires { IsSeatOf self.old.of (names_of self.old.lines) seat }
         ensures same { self.new ≡ self.old }
-        ensures told { IsToldBy self.old seat }
+        ensures told { IsReportedBy self.old seat }
     {
         let (number, line, replies) = seat.into_lines();
         self.calls.law_beginning(line);

@@ -1,11 +1,11 @@
 ghost use Rattle.std.specs.Prelude.{◌≡◌};
 
-use crate::replies::HearEnd;
+use crate::replies::HearingEnd;
 use crate::seat_ends::SeatEnds;
 use crate::submission::SubmitEnd;
 use std::marker::Model;
 
-/// What is left of a seat that its owner left. Contracts see what they saw of the seat.
+/// The remains of a seat that its owner left. The model is that of the seat.
 #[derive(Drop)]
 pub struct LeftSeat {
     ends: SeatEnds,
@@ -20,7 +20,7 @@ impl Model for LeftSeat {
 }
 
 impl LeftSeat {
-    /// These ends, which put no more.
+    /// These ends, which submit no more.
     pub(crate) fn new(ends: SeatEnds) -> LeftSeat
         ensures { result ≡ ends }
     {
@@ -28,10 +28,11 @@ impl LeftSeat {
     }
 
     /// Its number, and its two ends.
-    pub(crate) fn into_lines(self) -> (u64, SubmitEnd, HearEnd)
+    pub(crate) fn into_lines(self) -> (u64, SubmitEnd, HearingEnd)
         ensures seat { result.0 ≡ self.seat.0 }
         ensures line { result.1 ≡ record { of = self.of; seat = self.seat.0; put = self.put; refused = self.refused } }
-        ensures replies { result.2 ≡ record result.2 { of = self.replies; seat = self.seat.0; base = self.base; known = self.known } }
+        ensures replies { result.2
+            ≡ record result.2 { of = self.replies; seat = self.seat.0; base = self.base; known = self.known } }
     {
         let number = self.ends.id().0;
         let (line, replies) = self.ends.into_lines();

@@ -1,26 +1,26 @@
 ghost use Rattle.std.specs.Prelude.{◌≡◌, ◌++◌, ◌<◌, false, length, slice_set, true, IfNone, IfSome, MatchBool};
 ghost use Rattle.rly_line.specs.EndViews.{TellTheSame};
 ghost use Rattle.rly_line.specs.Batches.{calls_in_batch};
-ghost use Rattle.rly_line.specs.Replies.{MayTell};
+ghost use Rattle.rly_line.specs.Replies.{MayReport};
 ghost use Rattle.rly_line.specs.Submission.{IsBeginning, IsNext};
 
 use crate::batch::{Answers, Batch};
 use crate::closed_end::ClosedEnd;
-use crate::replies::TellEnd;
+use crate::ghost_history::{GhostHistory, HasState};
+use crate::replies::ReplyEnd;
 use crate::seat::Seat;
-use crate::story::{Standing, Story};
 use crate::submission::TakeEnd;
 use std::marker::Model;
 use std::sync::Wait;
 
-/// The other end of all seats' lines, for the one thread that answers. Contracts see which line it takes
-/// calls from and how many batches that holds, the calls that were taken, whether a wait found that no batch was left and
-/// no seat, and, for each seat, how many batches of answers its line holds, the base and the history that it was told last,
-/// and whether the seat was found gone.
+/// The receiving end of all queues, for the one thread that answers. The model: the queue from which it receives
+/// calls and the number of batches in it, the calls received, whether a wait found no batch and no seat left, and,
+/// for each seat, the number of batches of answers in its queue, the base and the history last sent to it, and
+/// whether the seat was found dropped.
 #[derive(Drop)]
 pub struct LineEnd {
     calls: TakeEnd,
-    replies: Vec<TellEnd>,
+    replies: Vec<ReplyEnd>,
 }
 
 impl Model for LineEnd {
@@ -29,67 +29,89 @@ impl Model for LineEnd {
 
     ghost Value = { EndView };
 
-    ghost view = { λ e. record { of = e.calls.of; capacity = e.calls.capacity; taken = e.calls.taken; lines = e.replies.items; over = e.calls.over } };
+    ghost view = { λ e.
+        record {
+          of = e.calls.of;
+          capacity = e.calls.capacity;
+          taken = e.calls.taken;
+          lines = e.replies.items;
+          over = e.calls.over;
+        } };
 
     ghost invariant = { λ e. (e.calls.seats ≡ length e.replies.items) × AreInPlace e.replies.items };
 }
 
 impl LineEnd {
-    ghost use Rattle.rly_line.specs.EndViews.{AreInPlace, teller_at, with_gone, with_told};
+    ghost use Rattle.rly_line.specs.EndViews.{AreInPlace, reply_end_at, with_gone, with_history};
 
-    /// The end of these lines.
-    pub(crate) fn new(calls: TakeEnd, replies: Vec<TellEnd>) -> LineEnd
+    /// The receiving end of these queues.
+    pub(crate) fn new(calls: TakeEnd, replies: Vec<ReplyEnd>) -> LineEnd
         requires { (calls.seats ≡ length replies.items) × AreInPlace replies.items }
-        ensures { result ≡ record { of = calls.of; capacity = calls.capacity; taken = calls.taken; lines = replies.items; over = calls.over } }
+        ensures { result
+            ≡ record {
+              of = calls.of;
+              capacity = calls.capacity;
+              taken = calls.taken;
+              lines = replies.items;
+              over = calls.over;
+            } }
     {
         LineEnd { calls, replies }
     }
 
-    /// Waits for a batch. None: no batch was left, and no seat.
+    /// Waits for a batch. `None`: no batch and no seat is left.
     pub fn wait<R: Wait>(&mut self, rt: &R) -> Option<Batch>
-        ensures taken { IfSome result (λ batch. (self.new ≡ record self.old { taken = self.old.taken ++ calls_in_batch batch })
+        ensures taken { IfSome result
+            (λ batch. (self.new ≡ record self.old { taken = self.old.taken ++ calls_in_batch batch })
             × IsNext (length self.old.lines) self.old.taken batch) }
         ensures none { IfNone result (self.new ≡ record self.old { over = true }) }
     {
         self.calls.wait(rt)
     }
 
-    /// A batch that is in the line, if there is one.
+    /// A batch that is in the queue, if there is one.
     pub fn more<R: Wait>(&mut self, rt: &R) -> Option<Batch>
-        ensures taken { IfSome result (λ batch. (self.new ≡ record self.old { taken = self.old.taken ++ calls_in_batch batch })
+        ensures taken { IfSome result
+            (λ batch. (self.new ≡ record self.old { taken = self.old.taken ++ calls_in_batch batch })
             × IsNext (length self.old.lines) self.old.taken batch) }
         ensures none { IfNone result (self.new ≡ self.old) }
     {
         self.calls.more(rt)
     }
 
-    /// Puts the answers to a batch into its seat's line, which tells a history. It answers whether it did: it
-    /// does not where the seat is gone, and then never again.
-    pub fn tell<T: Standing, R: Wait>(&mut self, rt: &R, answers: Answers, story: &Story<T>) -> bool
+    /// Sends the answers to a batch to its seat, with their history. Returns whether they were sent: not if the
+    /// seat was dropped, and then never again.
+    pub fn tell<T: HasState, R: Wait>(
+        &mut self,
+        rt: &R,
+        answers: Answers,
+        story: &GhostHistory<T>,
+    ) -> bool
         requires seat { answers.seat.0 < length self.old.lines }
-        requires may { (teller_at self.old.lines answers.seat.0).gone ≡ false
-            → MayTell (teller_at self.old.lines answers.seat.0) story.now.start answers.answers story.now.history }
+        requires may { (reply_end_at self.old.lines answers.seat.0).gone ≡ false
+            → MayReport (reply_end_at self.old.lines answers.seat.0) story.now.start answers.answers story.now.history }
         ensures of { self.new.of ≡ self.old.of }
         ensures taken { self.new.taken ≡ self.old.taken }
         ensures over { self.new.over ≡ self.old.over }
         ensures told { MatchBool result
-            (self.new.lines ≡ slice_set self.old.lines answers.seat.0 (with_told (teller_at self.old.lines answers.seat.0) story.now))
-            (self.new.lines ≡ slice_set self.old.lines answers.seat.0 (with_gone (teller_at self.old.lines answers.seat.0))) }
+            (self.new.lines ≡ slice_set self.old.lines answers.seat.0
+            (with_history (reply_end_at self.old.lines answers.seat.0) story.now))
+            (self.new.lines ≡ slice_set self.old.lines answers.seat.0
+            (with_gone (reply_end_at self.old.lines answers.seat.0))) }
     {
         let seat = answers.seat().0 as usize;
         let line = &mut self.replies[seat];
         line.tell(rt, answers, story)
     }
 
-    /// So many seats are gone that didn't say so. No wait is for them.
+    /// Stops waiting for `seats` seats that were dropped without leaving.
     pub fn forget(&mut self, count: usize)
         ensures { self.new ≡ self.old }
     {
         self.calls.forget(count);
     }
 
-    /// Takes no more calls and tells no more, and says so to each seat: a call that was put and not answered is Lost, and each
-    /// later one is Closed.
+    /// Closes all queues: a call that was submitted and not answered returns `Lost`, and each later one `Closed`.
     pub fn close<R: Wait>(self, rt: &R) -> ClosedEnd
         ensures of { result.of ≡ self.of }
         ensures taken { result.taken ≡ self.taken }
@@ -101,8 +123,8 @@ impl LineEnd {
         ClosedEnd::new(calls, replies)
     }
 
-    /// What is true of each seat at this line, at each moment: of the calls that it put, those that were
-    /// taken are a beginning, ask for ask.
+    /// The law of each seat at this queue, at each moment: the calls received are a prefix of the calls that it
+    /// submitted, ask for ask.
     pub fn law_beginning(&mut self, seat: Seat) -> Seat
         requires { seat.of ≡ self.old.of }
         ensures same { (self.new ≡ self.old) × (result ≡ seat) }
@@ -112,8 +134,8 @@ impl LineEnd {
     }
 }
 
-/// Says in each of these lines that no more answers come.
-fn close_all<R: Wait>(rt: &R, lines: &mut [TellEnd])
+/// Closes each of these answer queues.
+fn close_all<R: Wait>(rt: &R, lines: &mut [ReplyEnd])
     ensures { TellTheSame lines.new lines.old }
 {
     for place in 0..lines.len() {

@@ -1,13 +1,15 @@
-ghost use Rattle.std.specs.Prelude.{◌≡◌, ◌+◌, ◌++◌, ◌^◌, ◌<◌, ◌≤◌, ◌⊎◌, [], Err, false, true, vec_capacity, IfErr, IfOk, OnOk, length};
+ghost use Rattle.std.specs.Prelude.{◌≡◌, ◌+◌, ◌++◌, ◌^◌, ◌<◌, ◌≤◌, ◌⊎◌, [], Err, false, true, vec_capacity, IfErr};
+ghost use Rattle.std.specs.Prelude.{IfOk, OnOk, length};
 ghost use Rattle.rly_core.specs.Bounds.{IsIn};
 ghost use Rattle.rly_line.specs.declared.call_error.BatchError.TheVariants.{Closed};
 ghost use Rattle.rly_line.specs.HelpersEnds.{new_hearer};
-ghost use Rattle.rly_line.specs.Seats.{AreAnsweredWith, AreUnanswered, IsAnsweredWith, IsNotPut, IsUnanswered, new_caller};
+ghost use Rattle.rly_line.specs.Seats.{AreAnsweredWith, AreUnanswered, IsAnsweredWith, IsNotPut, IsUnanswered};
+ghost use Rattle.rly_line.specs.Seats.{new_caller};
 ghost use Rattle.rly_line.specs.Submission.{IsBeginning};
 
 use crate::call_error::{BatchError, CallError};
 use crate::left_seat::LeftSeat;
-use crate::replies::HearEnd;
+use crate::replies::HearingEnd;
 use crate::seat_ends::SeatEnds;
 use crate::submission::{SubmitEnd, TakeEnd};
 use rly_core::limits;
@@ -17,11 +19,11 @@ use std::marker::Model;
 use std::mem;
 use std::sync::Wait;
 
-/// So many asks a batch has at most.
+/// Maximum number of asks in a batch.
 const MAX_ASKS: usize = limits::MAX_ROUND as usize;
 
-/// The place of one caller at the line. Contracts see which line it is, which line its answers come out of, its number, the
-/// calls that it put, the base state and the history that it knows, whether it is shut, and whether its line refused a batch.
+/// A client handle. The model: its submission queue, its answer queue, its number, the calls that it submitted, the
+/// base state and the history that it knows, whether it is shut, and whether the queue refused a batch.
 #[derive(Drop)]
 pub struct Seat {
     alloc: Global,
@@ -43,12 +45,12 @@ impl Model for Seat {
 }
 
 impl Seat {
-    /// A seat at its two ends, of which nothing was asked.
+    /// A seat at its two ends, without calls.
     pub(crate) fn new(
         alloc: Global,
         seat: SeatId,
         line: SubmitEnd,
-        replies: HearEnd,
+        replies: HearingEnd,
     ) -> Result<Seat, AllocError>
         requires line { line ≡ record line { seat = seat.0; put = []; refused = false } }
         requires replies { replies ≡ new_hearer replies.of seat.0 }
@@ -65,7 +67,7 @@ impl Seat {
         })
     }
 
-    /// Of the calls that it put, those that were taken are a beginning.
+    /// The calls received are a prefix of those that it submitted.
     pub(crate) fn law_beginning(self, end: &mut TakeEnd) -> Seat
         requires { self.of ≡ end.old.of }
         ensures same { (end.new ≡ end.old) × (result ≡ self) }
@@ -86,8 +88,8 @@ impl Seat {
         }
     }
 
-    /// Gives the seat up, and says so in its line: the end of all lines waits for no more of it. Its owner drops it, or leaves
-    /// it and keeps what is left for `ClosedEnd::law_left`.
+    /// Leaves: the answering thread stops waiting for this seat. The owner drops the seat instead, or leaves it and
+    /// keeps the remains for `ClosedEnd::law_left`.
     pub fn leave<R: Wait>(self, rt: &R) -> LeftSeat
         ensures { result ≡ self }
     {
@@ -108,8 +110,9 @@ impl Seat {
         self.ends.id()
     }
 
-    /// Asks, and waits for the answer. Closed: the call was not put, and is handed back; the line refused it, or the seat
-    /// is shut, or made 2^52 calls. Lost: it was put, no answer came, and the seat is shut.
+    /// Submits an ask and waits for the answer. `Closed`: the call was not submitted, and is handed back; the queue
+    /// refused it, or the seat is shut, or made 2^52 calls. `Lost`: it was submitted, no answer came, and the seat
+    /// is shut.
     pub fn call<R: Wait>(&mut self, rt: &R, ask: Ask) -> Result<Answer, CallError>
         ensures ok { IfOk result (λ answer. IsAnsweredWith self.old ask answer self.new) }
         ensures err { IfErr result (λ error. IsUnanswered self.old ask error self.new) }
@@ -140,9 +143,10 @@ impl Seat {
         }
     }
 
-    /// Asks all of these together, and waits for their answers, which come together, in order, into an empty list with
-    /// room for them. No memory is asked for. Closed: none was put, and they stay where they are. Lost: they were put,
-    /// no answers came, and the seat is shut. A seat that is shut, or would make more than 2^52 calls, is Closed.
+    /// Submits all of these together and waits for their answers, which come together, in order, into an empty list
+    /// with room for them. Takes no memory. `Closed`: none was submitted, and they stay in the list. `Lost`: they
+    /// were submitted, no answers came, and the seat is shut. A seat that is shut, or would make more than 2^52
+    /// calls, returns `Closed`.
     pub fn call_all<R: Wait>(
         &mut self,
         rt: &R,
@@ -156,8 +160,10 @@ impl Seat {
         ensures none_left { OnOk result (asks.new.items ≡ []) }
         ensures err { IfErr result (λ error. AreUnanswered self.old asks.old.items error asks.new.items self.new) }
         ensures none_given { IfErr result (λ _. answers.new.items ≡ []) }
-        ensures shut { (self.old.shut ≡ true) ⊎ (2 ^ 52 < length self.old.put + length asks.old.items) → result ≡ Err Closed }
-        ensures capacity { (vec_capacity asks.new ≡ vec_capacity asks.old) × (vec_capacity answers.new ≡ vec_capacity answers.old) }
+        ensures shut { (self.old.shut ≡ true) ⊎ (2 ^ 52 < length self.old.put + length asks.old.items)
+            → result ≡ Err Closed }
+        ensures capacity { (vec_capacity asks.new ≡ vec_capacity asks.old)
+            × (vec_capacity answers.new ≡ vec_capacity answers.old) }
     {
         if !self.ends.may_put(asks.len()) {
             return Err(BatchError::Closed);
@@ -188,7 +194,7 @@ impl Seat {
     }
 }
 
-/// Moves all that is in one list to the end of another, which has room for it.
+/// Moves all elements of one list to the end of another, which has room for them.
 fn move_all<T: Drop>(from: &mut Vec<T>, to: &mut Vec<T>)
     requires room { length from.old.items + length to.old.items ≤ vec_capacity to.old }
     ensures emptied { from.new.items ≡ [] }

@@ -1,27 +1,27 @@
 ghost use Rattle.std.specs.Prelude.{◌≡◌, ◌+◌, ◌^◌, ◌≤◌, ◌++◌, ◌↔◌, [], false, true, length, IfErr, IfOk, MatchOption};
 ghost use Rattle.rly_core.specs.Bounds.{IsIn};
 ghost use Rattle.rly_line.specs.Batches.{calls_in_batch};
-ghost use Rattle.rly_line.specs.HelpersEnds.{HasRoom, new_hearer};
+ghost use Rattle.rly_line.specs.HelpersEnds.{HasBatchRoom, new_hearer};
 ghost use Rattle.rly_line.specs.Seats.{AreAnsweredWith, new_caller};
 ghost use Rattle.rly_line.specs.Submission.{IsBeginning};
 
 use crate::batch::{Answers, Batch};
-use crate::replies::HearEnd;
+use crate::replies::HearingEnd;
 use crate::submission::{SubmitEnd, TakeEnd};
 use rly_machine::{Answer, Ask, SeatId};
 use std::marker::Model;
 use std::sync::Wait;
 
-/// So many calls a seat makes in its life.
+/// Maximum number of calls of a seat in its lifetime.
 const MAX_CALLS: u64 = 1 << 52;
 
-/// The two ends of a seat: that of the line that its batches go into, and that of the line that its answers come out
-/// of. Contracts see what they see of the seat.
+/// The two ends of a seat: the sending end of the submission queue, and the receiving end of its answers. The model
+/// is that of the seat.
 #[derive(Drop)]
 pub(crate) struct SeatEnds {
     seat: SeatId,
     line: SubmitEnd,
-    replies: HearEnd,
+    replies: HearingEnd,
     calls: u64,
     is_shut: bool,
 }
@@ -47,8 +47,8 @@ impl Model for SeatEnds {
 }
 
 impl SeatEnds {
-    /// A seat's two ends, of which nothing was asked.
-    pub fn new(seat: SeatId, line: SubmitEnd, replies: HearEnd) -> SeatEnds
+    /// A seat's two ends, without calls.
+    pub fn new(seat: SeatId, line: SubmitEnd, replies: HearingEnd) -> SeatEnds
         requires line { line ≡ record line { seat = seat.0; put = []; refused = false } }
         requires replies { replies ≡ new_hearer replies.of seat.0 }
         ensures { result ≡ new_caller line.of replies.of seat.0 }
@@ -69,7 +69,7 @@ impl SeatEnds {
         self.seat
     }
 
-    /// Whether so many more calls may be put.
+    /// Whether this many more calls may be submitted.
     pub fn may_put(&self, count: usize) -> bool
         ensures { (result ≡ true) ↔ ((self.now.shut ≡ false) × (length self.now.put + count ≤ 2 ^ 52)) }
     {
@@ -81,13 +81,13 @@ impl SeatEnds {
         requires count { IsIn 1 64 (length asks.items) }
         requires numbers { length self.now.put + length asks.items ≤ 2 ^ 52 }
         requires empty { answers.items ≡ [] }
-        requires room { HasRoom asks answers }
+        requires room { HasBatchRoom asks answers }
         ensures { result ≡ record { seat = self.now.seat; before = length self.now.put; asks = asks.items } }
     {
         Batch::new(self.seat, self.calls, asks, answers)
     }
 
-    /// Puts the seat's next batch and waits for its answers. Where the line refuses it, it is handed back. Where it is and no
+    /// Submits the seat's next batch and waits for its answers. Hands the batch back if the queue refuses it. If no
     /// answers come, nothing is handed back, and the seat is shut.
     pub fn exchange<R: Wait>(&mut self, rt: &R, batch: Batch) -> Result<Answers, Option<Batch>>
         requires open { self.old.shut ≡ false }
@@ -111,17 +111,18 @@ impl SeatEnds {
         Ok(answers)
     }
 
-    /// Says that the seat puts no more.
+    /// Tells the queue that the seat submits no more.
     pub fn leave<R: Wait>(&mut self, rt: &R)
         ensures { self.new ≡ self.old }
     {
         self.line.leave(rt);
     }
 
-    /// Its end of the line that batches go into, and its end of the line that answers come out of.
-    pub fn into_lines(self) -> (SubmitEnd, HearEnd)
+    /// Its end of the submission queue, and its end of the answer queue.
+    pub fn into_lines(self) -> (SubmitEnd, HearingEnd)
         ensures line { result.0 ≡ record { of = self.of; seat = self.seat.0; put = self.put; refused = self.refused } }
-        ensures replies { result.1 ≡ record result.1 { of = self.replies; seat = self.seat.0; base = self.base; known = self.known } }
+        ensures replies { result.1
+            ≡ record result.1 { of = self.replies; seat = self.seat.0; base = self.base; known = self.known } }
     {
         let SeatEnds {
             seat: _seat,
@@ -133,7 +134,7 @@ impl SeatEnds {
         (line, replies)
     }
 
-    /// Of the calls that it put, those that were taken are a beginning.
+    /// The calls received are a prefix of those that it submitted.
     pub fn law_beginning(self, end: &mut TakeEnd) -> SeatEnds
         requires { self.of ≡ end.old.of }
         ensures same { (end.new ≡ end.old) × (result ≡ self) }

@@ -1,5 +1,5 @@
 ghost use Rattle.std.specs.Prelude.{◌≡◌, ◌<◌, ◌≤◌, [], false, length, IfOk};
-ghost use Rattle.rly_line.specs.EndViews.{names_of, new_tellers};
+ghost use Rattle.rly_line.specs.EndViews.{names_of, new_reply_ends};
 ghost use Rattle.rly_line.specs.Seats.{new_callers};
 
 use crate::line_end::LineEnd;
@@ -10,15 +10,16 @@ use rly_core::limits::{MAX_CAPACITY, MAX_SEATS};
 use rly_machine::SeatId;
 use std::alloc::{AllocError, Global};
 
-/// A line that holds so many batches, with so many seats and its other end: 1 to 256 each. Each seat is
-/// answered in a line of its own, which holds one batch of answers.
+/// A queue of at most `capacity` batches, with `count` seats and its receiving end: 1 to 256 each. Each seat has an
+/// answer queue of its own, which holds one batch of answers.
 pub fn make(alloc: Global, capacity: u16, seats: u16) -> Result<(Vec<Seat>, LineEnd), AllocError>
     requires capacity { (1 ≤ capacity) × (capacity ≤ MAX_CAPACITY) }
     requires seats { (1 ≤ seats) × (seats ≤ MAX_SEATS) }
     ensures seats { IfOk result (λ made. made.0.items ≡ new_callers made.1.of 0 (names_of made.1.lines)) }
     ensures count { IfOk result (λ made. length made.1.lines ≡ seats) }
     ensures capacity { IfOk result (λ made. made.1.capacity ≡ capacity) }
-    ensures end { IfOk result (λ made. made.1 ≡ record made.1 { taken = []; lines = new_tellers 0 (names_of made.1.lines); over = false }) }
+    ensures end { IfOk result
+        (λ made. made.1 ≡ record made.1 { taken = []; lines = new_reply_ends 0 (names_of made.1.lines); over = false }) }
 {
     let mut line = Line::new(alloc, capacity as usize)?;
     let mut made = Vec::with_capacity(alloc, seats as usize)?;

@@ -1,6 +1,7 @@
-//! The line that batches go into.
+//! The submission queue.
 
-ghost use Rattle.std.specs.Prelude.{◌≡◌, ◌+◌, ◌++◌, ◌<◌, [], false, length, true, IfErr, IfNone, IfOk, IfSome, MatchOption, OnErr, OnOk};
+ghost use Rattle.std.specs.Prelude.{◌≡◌, ◌+◌, ◌++◌, ◌<◌, [], false, length, true, IfErr, IfNone, IfOk, IfSome};
+ghost use Rattle.std.specs.Prelude.{MatchOption, OnErr, OnOk};
 ghost use Rattle.rly_line.specs.HelpersEnds.{line_of};
 ghost use Rattle.crossbeam_channel.specs.Claims.{view, IsSeatAt};
 ghost use Rattle.crossbeam_channel.specs.Ends.{sends_on, receives_on};
@@ -16,23 +17,23 @@ use std::collections::LinkedList;
 use std::marker::Model;
 use std::sync::Wait;
 
-/// What a pass knows of the line. No value of it is made.
+/// The knowledge of a token about the queue. No value of it is made.
 pub struct LineView {
     /// Whether it is a seat's.
     pub puts: bool,
-    /// Which seat's.
+    /// The seat's number.
     pub seat: u64,
-    /// The calls that the seat put.
+    /// The calls that the seat submitted.
     pub put: LinkedList<Call>,
-    /// Whether it is that of the end that takes calls.
+    /// Whether it is that of the receiving end.
     pub takes: bool,
-    /// How many seats there are.
+    /// The number of seats.
     pub seats: u64,
-    /// The calls that were taken.
+    /// The calls received.
     pub taken: LinkedList<Call>,
 }
 
-/// The rule of the line.
+/// The rule of the queue.
 pub struct Lined;
 
 impl Protocol<Option<Batch>, LineView> for Lined {
@@ -42,22 +43,22 @@ impl Protocol<Option<Batch>, LineView> for Lined {
 
     ghost holds = { submission.AreLined };
 
-    ghost first = { helpers.taking 0 [] };
+    ghost first = { helpers.taking_view 0 [] };
 }
 
-/// A pass of a new seat is cut from the one that takes.
+/// The token of a new seat is split from the receiver's.
 pub struct Seats;
 
 impl Split<LineView> for Seats {
     ghost use Rattle.std.specs.Prelude.{◌+◌, []};
-    ghost use Rattle.rly_line.specs.HelpersEnds.{putting};
+    ghost use Rattle.rly_line.specs.HelpersEnds.{putting_view};
 
     ghost left = { λ v. record v { seats = v.seats + 1 } };
 
-    ghost right = { λ v. putting v.seats [] };
+    ghost right = { λ v. putting_view v.seats [] };
 }
 
-/// A seat puts a batch.
+/// A seat submits a batch.
 pub struct Puts;
 
 impl Outcome<Option<Batch>, LineView> for Puts {
@@ -71,7 +72,7 @@ impl Lesson<Option<Batch>, LineView> for Puts {
     ghost fact = { λ v puts. Unit {0} };
 }
 
-/// A seat says that it puts no more.
+/// A seat leaves.
 pub struct Leaves;
 
 impl Outcome<Option<Batch>, LineView> for Leaves {
@@ -84,7 +85,7 @@ impl Lesson<Option<Batch>, LineView> for Leaves {
     ghost fact = { λ v puts. Unit {0} };
 }
 
-/// A batch is taken.
+/// A batch is received.
 pub struct Takes;
 
 impl Outcome<Option<Batch>, LineView> for Takes {
@@ -97,23 +98,23 @@ impl Lesson<Option<Batch>, LineView> for Takes {
     ghost fact = { λ v puts. Unit {0} };
 }
 
-/// A seat's pass and the one that takes are put together, and cut again.
+/// A seat's token and the receiver's are joined, and split again.
 struct Together;
 
 impl Join<LineView> for Together {
-    ghost use Rattle.rly_line.specs.HelpersEnds.{idle, together};
+    ghost use Rattle.rly_line.specs.HelpersEnds.{idle_view, merged_view};
 
-    ghost both = { λ v w. together v w };
+    ghost both = { λ v w. merged_view v w };
 
-    ghost spent = { idle };
+    ghost spent = { idle_view };
 }
 
 impl Split<LineView> for Together {
-    ghost use Rattle.rly_line.specs.HelpersEnds.{putting, taking};
+    ghost use Rattle.rly_line.specs.HelpersEnds.{putting_view, taking_view};
 
-    ghost left = { λ v. taking v.seats v.taken };
+    ghost left = { λ v. taking_view v.seats v.taken };
 
-    ghost right = { λ v. putting v.seat v.put };
+    ghost right = { λ v. putting_view v.seat v.put };
 }
 
 impl Lesson<Option<Batch>, LineView> for Together {
@@ -124,7 +125,7 @@ impl Lesson<Option<Batch>, LineView> for Together {
     ghost fact = { λ v puts. calls_of v.seat (v.taken ++ calls_in_line puts) ≡ v.put };
 }
 
-/// The whole line, while seats are given out. Contracts see it as the end that takes calls.
+/// The whole queue, while seats are added. The model is that of the receiving end.
 #[derive(Drop)]
 pub struct Line {
     puts: RuledSender<Option<Batch>, LineView, Lined>,
@@ -148,14 +149,16 @@ impl Model for Line {
       over = false;
     } };
 
-    ghost invariant = { λ l. IsSeatAt (sends_on l.puts) l.pass × ((pass_view l.pass).takes ≡ true) × (receives_on l.takes ≡ sends_on l.puts) };
+    ghost invariant = { λ l. IsSeatAt (sends_on l.puts) l.pass × ((pass_view l.pass).takes ≡ true)
+        × (receives_on l.takes ≡ sends_on l.puts) };
 }
 
 impl Line {
-    /// A line with no seat.
+    /// A queue without seats.
     pub fn new(alloc: Global, capacity: usize) -> Result<Line, AllocError>
         requires { 0 < capacity }
-        ensures { IfOk result (λ line. line ≡ record line { capacity = capacity; seats = 0; taken = []; over = false }) }
+        ensures { IfOk result
+            (λ line. line ≡ record line { capacity = capacity; seats = 0; taken = []; over = false }) }
     {
         let (puts, takes, pass) = bounded_with::<Option<Batch>, LineView, Lined, Global>(
             alloc, capacity,
@@ -163,7 +166,7 @@ impl Line {
         Ok(Line { puts, takes, pass })
     }
 
-    /// One more seat's end.
+    /// The end of one more seat.
     pub fn seat(&mut self) -> Result<SubmitEnd, AllocError>
         ensures ok { IfOk result
             (λ end. (end ≡ record { of = self.old.of; seat = self.old.seats; put = []; refused = false })
@@ -179,7 +182,7 @@ impl Line {
         })
     }
 
-    /// The end that takes calls, of all its seats. No seat is given out any more.
+    /// The receiving end, of all its seats. No more seats can be added.
     pub fn into_end(self, seats: usize) -> TakeEnd
         requires { seats ≡ self.seats }
         ensures { result ≡ self }
@@ -193,8 +196,8 @@ impl Line {
     }
 }
 
-/// A seat's end of the line. Contracts see the seat's number, the calls that it put, and whether the line refused a batch,
-/// since the other end was gone.
+/// A seat's end of the queue. The model: the seat's number, the calls that it submitted, and whether the queue
+/// refused a batch, since the other end was closed.
 #[derive(Drop)]
 pub struct SubmitEnd {
     line: RuledSender<Option<Batch>, LineView, Lined>,
@@ -210,13 +213,19 @@ impl Model for SubmitEnd {
 
     ghost Value = { Putter };
 
-    ghost view = { λ e. record { of = line_of e.pass; seat = (pass_view e.pass).seat; put = (pass_view e.pass).put; refused = e.is_refused } };
+    ghost view = { λ e.
+        record {
+          of = line_of e.pass;
+          seat = (pass_view e.pass).seat;
+          put = (pass_view e.pass).put;
+          refused = e.is_refused;
+        } };
 
     ghost invariant = { λ e. IsSeatAt (sends_on e.line) e.pass × ((pass_view e.pass).puts ≡ true) };
 }
 
 impl SubmitEnd {
-    /// Puts the seat's next batch. Where the other end is gone, it hands the batch back.
+    /// Submits the seat's next batch. Hands it back if the other end is closed.
     pub fn put<R: Wait>(&mut self, rt: &R, batch: Batch) -> Result<(), Batch>
         requires seat { batch.seat.0 ≡ self.old.seat }
         requires before { batch.before ≡ length self.old.put }
@@ -239,14 +248,14 @@ impl SubmitEnd {
         }
     }
 
-    /// Says that the seat puts no more.
+    /// Tells the queue that the seat submits no more.
     pub fn leave<R: Wait>(&mut self, rt: &R)
         ensures { self.new ≡ self.old }
     {
         let _told = self.line.send_as::<Leaves, R>(rt, &mut self.pass, None);
     }
 
-    /// Of the calls that it put, those that were taken are a beginning, whoever has the pass that takes.
+    /// The calls received are a prefix of those that it submitted, whoever has the receiver's token.
     fn law_beginning(self, taker: &mut Pass<Option<Batch>, LineView>) -> SubmitEnd
         requires takes { ((view taker.old).takes ≡ true) × (taker.old.me.1 ≡ []) }
         requires of { line_of taker.old ≡ self.of }
@@ -272,13 +281,13 @@ impl SubmitEnd {
     }
 }
 
-/// The end of the line that takes batches. Contracts see how many batches the line holds, how many seats there are, the
-/// calls taken, and whether a wait found that no batch was left and no seat.
+/// The receiving end of the queue. The model: the number of batches in the queue, the number of seats, the calls
+/// received, and whether a wait found no batch and no seat left.
 #[derive(Drop)]
 pub struct TakeEnd {
     line: RuledReceiver<Option<Batch>, LineView, Lined>,
     pass: Pass<Option<Batch>, LineView>,
-    /// How many seats didn't leave yet.
+    /// The number of seats that didn't leave yet.
     here: usize,
     is_over: bool,
 }
@@ -303,7 +312,7 @@ impl Model for TakeEnd {
 }
 
 impl TakeEnd {
-    /// Waits for a batch. None: no batch was left, and no seat.
+    /// Waits for a batch. `None`: no batch and no seat is left.
     pub fn wait<R: Wait>(&mut self, rt: &R) -> Option<Batch>
         ensures taken { IfSome result (λ batch.
             (self.new ≡ record self.old { taken = self.old.taken ++ calls_in_batch batch })
@@ -324,16 +333,18 @@ impl TakeEnd {
         None
     }
 
-    /// Waits for what a seat puts: a batch, or, as `Some(None)`, that it leaves. `None`: nothing was left in the line, and no seat.
+    /// Waits for the next element: a batch, or `Some(None)` if a seat leaves. `None`: the queue is empty, and no
+    /// seat is left.
     fn next<R: Wait>(&mut self, rt: &R) -> Option<Option<Batch>>
         ensures taken { IfSome result (λ put. MatchOption put (self.new ≡ self.old)
-            (λ batch. (self.new ≡ record self.old { taken = self.old.taken ++ calls_in_batch batch }) × IsNext self.old.seats self.old.taken batch)) }
+            (λ batch. (self.new ≡ record self.old { taken = self.old.taken ++ calls_in_batch batch })
+            × IsNext self.old.seats self.old.taken batch)) }
         ensures none { IfNone result (self.new ≡ self.old) }
     {
         self.line.recv_as::<Takes, R>(rt, &mut self.pass).ok()
     }
 
-    /// A batch that is in the line, if there is one.
+    /// A batch that is in the queue, if there is one.
     pub fn more<R: Wait>(&mut self, rt: &R) -> Option<Batch>
         ensures taken { IfSome result (λ batch.
             (self.new ≡ record self.old { taken = self.old.taken ++ calls_in_batch batch })
@@ -350,14 +361,14 @@ impl TakeEnd {
         }
     }
 
-    /// So many seats are gone that didn't say so.
+    /// `seats` seats were dropped without leaving.
     pub fn forget(&mut self, count: usize)
         ensures { self.new ≡ self.old }
     {
         self.here = self.here.saturating_sub(count);
     }
 
-    /// Takes no more. A batch that is put from now on is refused, and what is in the line is lost.
+    /// Closes the queue. A batch that is submitted from now on is refused, and the batches in the queue are lost.
     pub fn close(self) -> TakenEnd
         ensures { result ≡ record { of = self.of; seats = self.seats; taken = self.taken } }
     {
@@ -370,7 +381,7 @@ impl TakeEnd {
         TakenEnd { pass }
     }
 
-    /// Of the calls that a seat of this line put, those that were taken are a beginning.
+    /// The calls received are a prefix of those that a seat of this queue submitted.
     pub fn law_beginning(&mut self, end: SubmitEnd) -> SubmitEnd
         requires { end.of ≡ self.old.of }
         ensures same { (self.new ≡ self.old) × (result ≡ end) }
@@ -380,8 +391,7 @@ impl TakeEnd {
     }
 }
 
-/// The end of the line that took batches, once it takes no more. Contracts see how many seats there are, and the calls
-/// taken.
+/// The receiving end of the queue once it is closed. The model: the number of seats, and the calls received.
 #[derive(Drop)]
 pub struct TakenEnd {
     pass: Pass<Option<Batch>, LineView>,
@@ -394,13 +404,14 @@ impl Model for TakenEnd {
 
     ghost Value = { Taken };
 
-    ghost view = { λ e. record { of = line_of e.pass; seats = (pass_view e.pass).seats; taken = (pass_view e.pass).taken } };
+    ghost view = { λ e.
+        record { of = line_of e.pass; seats = (pass_view e.pass).seats; taken = (pass_view e.pass).taken } };
 
     ghost invariant = { λ e. ((pass_view e.pass).takes ≡ true) × (e.pass.me.1 ≡ []) };
 }
 
 impl TakenEnd {
-    /// Of the calls that a seat of this line put, those that were taken are a beginning. The seat's end is used up.
+    /// The calls received are a prefix of those that a seat of this queue submitted. Consumes the seat's end.
     pub fn law_beginning(&mut self, end: SubmitEnd)
         requires { end.of ≡ self.old.of }
         ensures same { self.new ≡ self.old }

@@ -1,4 +1,4 @@
--- Two states with the same payload lengths: one is sound exactly where the other is.
+-- Of two states with the same payload lengths, one is sound if and only if the other is.
 use Rattle.std.proofs.Common.{ℕ, suc, ◌≡◌, List, [], ◌∷◌, get_or, map, arith, refl, sym, ap, subst, ◌∙◌}
 use Rattle.std.specs.Prelude.{All, AllPairs}
 use Rattle.std.proofs.lemmas.List.{length-map, map-append}
@@ -11,7 +11,7 @@ use Rattle.rly_machine.specs.Sound.{ComesBefore, IsLive, IsSound, IsSoundHop}
 use Rattle.rly_machine.specs.State.{State, HopState, live_line, live_items, live_bytes}
 use Rattle.rly_machine.proofs.Mapping.{get_mapped, sum_mapped, mapped_items, mapped_bytes}
 
--- what holds of a mapped list, and what holds of the list
+-- a property of a mapped list, and the same of the list
 all_back : {X Y : Type 0} (P : Y → Type 0) (f : X → Y) (xs : List X) → All P (map f xs) → All (λ x. P (f x)) xs
 all_back P f xs all k d lt = subst P (get_mapped f xs k d) (all k (f d) (omega (arith, lt, length-map xs f)))
 
@@ -32,7 +32,7 @@ pairs_there R f (x ∷ xs) all = AllPairs-cons R (f x) (map f xs)
 abbrev pub itself : ℕ → ℕ
 itself n = n
 
--- a hop, and the same with lengths in place of payloads
+-- a hop, and the same hop with lengths in place of payloads
 sizes_sound_hop : {P : Type 0} (len : P → ℕ) (params : Params) (seq : ℕ) (h : HopState P) → IsSoundHop len params seq h
     → IsSoundHop itself params seq (map_hop len h)
 sizes_sound_hop {P} len params seq h sound =
@@ -77,7 +77,7 @@ sound_from_sizes_hop {P} len params seq h sound =
       count = sound.count;
     }
 
--- a state, and the same with lengths in place of payloads
+-- a state, and the same state with lengths in place of payloads
 pub sizes_sound : {P : Type 0} (len : P → ℕ) (s : State P) → IsSound len s → IsSound itself (map_state len s)
 sizes_sound {P} len s sound =
     let f : HopState P → HopState ℕ = map_hop len in
@@ -117,7 +117,7 @@ pub sound_alike : {P Q : Type 0} (len : P → ℕ) (len' : Q → ℕ) (s : State
     → map_state len s ≡ map_state len' t → IsSound len s → IsSound len' t
 sound_alike len len' s t same sound = sound_from_sizes len' t (subst (IsSound itself) same (sizes_sound len s sound))
 
--- as much is live in both
+-- both have the same number of live items and bytes
 pub items_alike : {P Q : Type 0} (len : P → ℕ) (len' : Q → ℕ) (s : State P) (t : State Q)
     → map_state len s ≡ map_state len' t → live_items s ≡ live_items t
 items_alike len len' s t same = sym (mapped_items len s) ∙ ap (λ (u : State ℕ). live_items u) same ∙ mapped_items len' t

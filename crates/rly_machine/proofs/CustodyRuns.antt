@@ -1,4 +1,4 @@
--- Where each item that was taken for a hop is, after any row of commands.
+-- The state of each item that was taken for a hop, after any list of commands.
 use Rattle.std.proofs.Common.{ℕ, ◌≡◌, ◌+◌, ◌-◌, ◌<◌, ◌≤◌, ◌^◌, Bool, true, false, cond, not, ◌⊎◌, inl, inr, List, [], ◌∷◌, ◌++◌, length, get_or, set, take, drop, refl, arith, sym, ◌∙◌, ap, subst, Option, Some, None, append_assoc, max, replicate}
 use Rattle.std.specs.Prelude.{count_by, nat_eq, nat_le, nat_lt}
 use Rattle.std.proofs.lemmas.Bool.{cases_eq, cases_lt, eq-eqb, ne_eqb}
@@ -7,7 +7,7 @@ use Rattle.std.proofs.lemmas.List.Elements.{filter-append}
 use Rattle.std.proofs.lemmas.List.Sums.{count_by-le-length, length-filter}
 use Rattle.std.specs.List.{filter}
 use Rattle.rly_codel.proofs.Bounds.{dropped-lt}
-use Rattle.rly_codel.specs.Cases.{Outcome}
+use Rattle.rly_codel.specs.Cases.{DequeueOutcome}
 use Rattle.rly_core.specs.declared.ids.HopId.{HopId}
 use Rattle.rly_core.specs.declared.ids.PeerId.{PeerId}
 use Rattle.rly_core.specs.declared.params.Params.{Params}
@@ -17,7 +17,7 @@ use Rattle.rly_machine.specs.declared.hop.Item.{Item}
 use Rattle.rly_machine.specs.declared.reply.Reply.{Reply}
 use Rattle.rly_machine.specs.declared.reply.Reply.TheVariants.{Taken, Already, Picked, Nothing, Released, Unchanged, Bytes, WindowIs, Shown, Refused}
 use Rattle.rly_machine.specs.Accepted.{accept, max_seq, unless}
-use Rattle.rly_machine.specs.Custody.{HopAccount, KeepsCustody, account_along, account_of, and_then, ids_of, nothing, times}
+use Rattle.rly_machine.specs.Custody.{HopAccount, KeepsCustody, account_along, account_of, and_then, ids_of, empty_account, times}
 use Rattle.rly_machine.specs.Fold.{fold}
 use Rattle.rly_machine.specs.Expiry.{after_expiry, expired_count, with_expired}
 use Rattle.rly_machine.specs.Pick.{after_pick, is_idle, pick_outcome, pick_refusal, pick_reply, picked_reply, waiting_of, with_picked}
@@ -28,7 +28,7 @@ use Rattle.rly_machine.specs.Step.{step}
 use Rattle.rly_machine.proofs.Refusals.{among, may_pick, may_release, may_take}
 use Rattle.rly_machine.proofs.Waiting.{waiting_length}
 
--- a row of commands took a hop from one state to another: each id that waited or was taken is dropped, expired, sent or
+-- a list of commands led a hop from one state to another: each id that waited or was taken is dropped, expired, sent or
 -- waits; those in flight are those that were sent, less those released; and the numbers rise by one
 pub record Moves {P : Type 0} (before after : HopState P) (tells : HopAccount) : Type 0 where
   pub placed : (id : ℕ) → times id (ids_of before.queue) + times id tells.taken ≡ times id tells.dropped + times id tells.expired + times id tells.sent + times id (ids_of after.queue)
@@ -38,7 +38,7 @@ pub record Moves {P : Type 0} (before after : HopState P) (tells : HopAccount) :
   pub count : length tells.numbers ≡ length tells.sent
   pub numbered : (k : ℕ) → k < length tells.numbers → get_or tells.numbers k 0 ≡ before.released + length before.flight + 1 + k
 
--- how often an id is in two lists, one after the other
+-- the number of occurrences of an id in a concatenation
 pub times-append : (id : ℕ) (xs ys : List ℕ) → times id (xs ++ ys) ≡ times id xs + times id ys
 times-append id xs ys =
     let is : ℕ → Bool = λ other. nat_eq other id in
@@ -48,8 +48,8 @@ times-append id xs ys =
 length-ids : {P : Type 0} (items : List (Item P)) → length (ids_of items) ≡ length items
 length-ids {P} items = length-map items (λ (item : Item P). item.id)
 
--- nothing was done
-pub no_moves : {P : Type 0} (h : HopState P) → Moves h h nothing
+-- no command
+pub no_moves : {P : Type 0} (h : HopState P) → Moves h h empty_account
 no_moves h = record {
   placed = λ id. omega arith;
   fewer = omega arith;
@@ -59,7 +59,7 @@ no_moves h = record {
   numbered = λ k none. absurd (omega arith);
 }
 
--- two rows, one after the other
+-- two lists in order
 pub moves_again : {P : Type 0} (a b c : HopState P) (one two : HopAccount) → Moves a b one → Moves b c two → Moves a c (and_then one two)
 moves_again {P} a b c one two first second =
     let k : ℕ = b.released - a.released in
@@ -92,15 +92,15 @@ moves_again {P} a b c one two first second =
       ];
     }
 
--- answers that refuse
+-- refusals
 abbrev IsQuiet : Reply → Type 0
 IsQuiet (Already last) = Unit {0}
 IsQuiet Unchanged = Unit {0}
 IsQuiet (Refused refusal) = Unit {0}
 IsQuiet _ = ⊥
 
--- tell nothing
-quiet_told : {P : Type 0} (hop : HopId) (command : Command P) (reply : Reply) → IsQuiet reply → account_of hop command reply ≡ nothing
+-- have an empty account
+quiet_told : {P : Type 0} (hop : HopId) (command : Command P) (reply : Reply) → IsQuiet reply → account_of hop command reply ≡ empty_account
 quiet_told hop (Take _ _ _ _ _ _) (Already last) q = refl
 quiet_told hop (Pick _ _) (Already last) q = refl
 quiet_told hop (Release _ _) (Already last) q = refl
@@ -118,7 +118,7 @@ quiet_told hop command (Bytes payload limit) q = absurd q
 quiet_told hop command (WindowIs first next) q = absurd q
 quiet_told hop command (Shown status) q = absurd q
 
--- a check that fails is answered quietly, and so are those after it
+-- a failed check has an empty account, and so have those after it
 quiet_check : (fails : Bool) (x : Reply) (rest : Option Reply) (reply : Reply) → IsQuiet x → (rest ≡ Some reply → IsQuiet reply) → cond fails (Some x) rest ≡ Some reply → IsQuiet reply
 quiet_check true x rest reply q more h = subst IsQuiet (let e : x ≡ reply = (cc) in e) q
 quiet_check false x rest reply q more h = more h
@@ -153,7 +153,7 @@ release_quiet s hop number reply =
     (quiet_check (nat_eq (covered_count (hop_at s hop) number) 0) _ _ reply tt
     (quiet_check (nat_le max_seq s.seq) _ _ reply tt (none_quiet reply))))
 
--- a refused command moves nothing
+-- a refused command changes no hop
 moves_unless : {P : Type 0} (refusal : Option Reply) (s : State P) (accepted : State P × Reply) (hop : HopId) (command : Command P)
     → ((reply : Reply) → refusal ≡ Some reply → IsQuiet reply)
     → (refusal ≡ None → Moves (hop_at s hop) (hop_at accepted.0 hop) (account_of hop command accepted.1))
@@ -162,7 +162,7 @@ moves_unless None s accepted hop command quiet moves = moves refl
 moves_unless (Some reply) s accepted hop command quiet moves =
     subst (Moves (hop_at s hop) (hop_at s hop)) (sym (quiet_told hop command reply (quiet reply refl))) (no_moves (hop_at s hop))
 
--- an item at the back of the queue
+-- an item is added at the back of the queue
 moves_taken : {P : Type 0} (h : HopState P) (id stamp limit : ℕ) (payload : P) → Moves h (with_taken h id stamp limit payload) (record { taken = id ∷ []; dropped = []; expired = []; sent = []; numbers = [] })
 moves_taken {P} h id stamp limit payload =
     let item : Item P = record { id = id; stamp = max stamp h.moment; limit = limit; payload = payload } in
@@ -177,12 +177,12 @@ moves_taken {P} h id stamp limit payload =
       numbered = λ k none. absurd (omega arith);
     }
 
--- what is told of those that expire
+-- the account of the expired items
 abbrev expiry_tells : {P : Type 0} → HopState P → ℕ → HopAccount
 expiry_tells h count = record { taken = []; dropped = []; expired = ids_of (take count h.queue); sent = []; numbers = [] }
 
 -- the first in flight are released
-moves_released : {P : Type 0} (h : HopState P) (count : ℕ) → count ≤ length h.flight → Moves h (with_released h count) nothing
+moves_released : {P : Type 0} (h : HopState P) (count : ℕ) → count ≤ length h.flight → Moves h (with_released h count) empty_account
 moves_released {P} h count within =
     let gone : h.released + count - h.released ≡ count = omega arith in
     record {
@@ -196,7 +196,7 @@ moves_released {P} h count within =
       numbered = λ k none. absurd (omega arith);
     }
 
--- the first that wait expire
+-- the first waiting items expire
 pub moves_expired : {P : Type 0} (h : HopState P) (count : ℕ) → Moves h (with_expired h count) (expiry_tells h count)
 moves_expired {P} h count =
     let still = no_moves h in
@@ -212,13 +212,13 @@ moves_expired {P} h count =
       numbered = λ k none. absurd (omega arith);
     }
 
--- what a pick tells of its own hop, once the expired are gone
+-- the account of a pick for its own hop, after the expired items are gone
 picked_tells : {P : Type 0} → HopState P → ℕ → List (Item P) → HopAccount
-picked_tells h count [] = nothing
+picked_tells h count [] = empty_account
 picked_tells h count (item ∷ behind) = record { taken = []; dropped = ids_of (take count h.queue); expired = []; sent = item.id ∷ []; numbers = next_number h ∷ [] }
 
--- what waits after those dropped goes into flight, if anything does
-moves_picked : {P : Type 0} (h : HopState P) (now : ℕ) (outcome : Outcome) (rest : List (Item P))
+-- the first item after the dropped ones goes into flight, if there is one
+moves_picked : {P : Type 0} (h : HopState P) (now : ℕ) (outcome : DequeueOutcome) (rest : List (Item P))
     → drop outcome.dropped h.queue ≡ rest → (0 < length h.queue → outcome.dropped < length h.queue)
     → Moves h (with_picked h now outcome) (picked_tells h outcome.dropped rest)
 unfolding picked_tells
@@ -258,7 +258,7 @@ moves_picked {P} h now outcome (item ∷ behind) is fewer =
       numbered = λ k below. (let first : k ≡ 0 = omega arith in ap (λ i. get_or (next_number h ∷ []) i 0) first ∙ (let e : h.released + length h.flight + 1 ≡ h.released + length h.flight + 1 + k = omega arith in e));
     }
 
--- the hop of an accepted command is the new one, and every other hop stays
+-- the hop of an accepted command is the new one, and every other hop is unchanged
 own_hop : {P : Type 0} (s : State P) (hop to : HopId) (h : HopState P) → 0 < to.0 → to.0 ≤ length s.hops → to.0 ≡ hop.0 → hop_at (accept s to h) hop ≡ h
 own_hop {P} s hop to h from below same =
     ap (λ n. get_or (set s.hops (to.0 - 1) h) (n - 1) new_hop) (sym same) ∙ get_or-set_same s.hops (to.0 - 1) h new_hop (omega arith)
@@ -266,28 +266,28 @@ own_hop {P} s hop to h from below same =
 other_hop : {P : Type 0} (s : State P) (hop to : HopId) (h : HopState P) → 0 < to.0 → 0 < hop.0 → (to.0 ≡ hop.0 → ⊥) → hop_at (accept s to h) hop ≡ hop_at s hop
 other_hop {P} s hop to h from hop_from differ = get_or-set_other s.hops (to.0 - 1) (hop.0 - 1) h new_hop (λ same. differ (let e : to.0 ≡ hop.0 = omega (arith, same) in e))
 
--- a change of one hop, with what it tells
+-- a change of one hop, with its account
 moves_at : {P : Type 0} (s : State P) (hop to : HopId) (h : HopState P) (tells : HopAccount) → 0 < hop.0 → 0 < to.0 → to.0 ≤ length s.hops
-    → Moves (hop_at s to) h tells → Moves (hop_at s hop) (hop_at (accept s to h) hop) (cond (nat_eq to.0 hop.0) tells nothing)
+    → Moves (hop_at s to) h tells → Moves (hop_at s hop) (hop_at (accept s to h) hop) (cond (nat_eq to.0 hop.0) tells empty_account)
 moves_at {P} s hop to h tells hop_from from below moves = elim (cases_eq to.0 hop.0) [
   | inl same ↦ (let here : hop_at s to ≡ hop_at s hop = ap (λ n. get_or s.hops (n - 1) new_hop) same in
-      subst (λ (t : HopAccount). Moves (hop_at s hop) (hop_at (accept s to h) hop) t) (sym (ap (λ b. cond b tells nothing) (eq-eqb to.0 hop.0 same)))
+      subst (λ (t : HopAccount). Moves (hop_at s hop) (hop_at (accept s to h) hop) t) (sym (ap (λ b. cond b tells empty_account) (eq-eqb to.0 hop.0 same)))
       (subst (λ (after : HopState P). Moves (hop_at s hop) after tells) (sym (own_hop s hop to h from below same))
       (subst (λ (before : HopState P). Moves before h tells) here moves)))
-  | inr differ ↦ subst (λ (t : HopAccount). Moves (hop_at s hop) (hop_at (accept s to h) hop) t) (sym (ap (λ b. cond b tells nothing) (ne_eqb to.0 hop.0 differ)))
-      (subst (λ (after : HopState P). Moves (hop_at s hop) after nothing) (sym (other_hop s hop to h from hop_from differ)) (no_moves (hop_at s hop)))
+  | inr differ ↦ subst (λ (t : HopAccount). Moves (hop_at s hop) (hop_at (accept s to h) hop) t) (sym (ap (λ b. cond b tells empty_account) (ne_eqb to.0 hop.0 differ)))
+      (subst (λ (after : HopState P). Moves (hop_at s hop) after empty_account) (sym (other_hop s hop to h from hop_from differ)) (no_moves (hop_at s hop)))
 ]
 
--- what the reply to a pick tells
+-- the account of the reply to a pick
 told_of_pick : {P : Type 0} (hop to : HopId) (now : ℕ) (h : HopState P) (late count : ℕ) (rest : List (Item P))
     → account_of {P = P} hop (Pick to now) (picked_reply (next_number h) (ids_of (take late h.queue)) (ids_of (take count (drop late h.queue))) rest)
-    ≡ cond (nat_eq to.0 hop.0) (and_then (expiry_tells h late) (picked_tells (with_expired h late) count rest)) nothing
+    ≡ cond (nat_eq to.0 hop.0) (and_then (expiry_tells h late) (picked_tells (with_expired h late) count rest)) empty_account
 unfolding picked_tells
 told_of_pick {P} hop to now h late count [] =
-    ap (λ ids. cond (nat_eq to.0 hop.0) (let t : HopAccount = record { taken = []; dropped = []; expired = ids; sent = []; numbers = [] } in t) nothing)
+    ap (λ ids. cond (nat_eq to.0 hop.0) (let t : HopAccount = record { taken = []; dropped = []; expired = ids; sent = []; numbers = [] } in t) empty_account)
     (sym (append-nil (ids_of (take late h.queue))))
 told_of_pick {P} hop to now h late count (item ∷ behind) =
-    ap (λ ids. cond (nat_eq to.0 hop.0) (let t : HopAccount = record { taken = []; dropped = ids_of (take count (drop late h.queue)); expired = ids; sent = item.id ∷ []; numbers = next_number h ∷ [] } in t) nothing)
+    ap (λ ids. cond (nat_eq to.0 hop.0) (let t : HopAccount = record { taken = []; dropped = ids_of (take count (drop late h.queue)); expired = ids; sent = item.id ∷ []; numbers = next_number h ∷ [] } in t) empty_account)
     (sym (append-nil (ids_of (take late h.queue))))
 
 -- each step
@@ -319,11 +319,11 @@ moves_step {P} len s (Release to number) hop hop_from =
     moves_unless (release_refusal s to number) s _ hop (Release to number) (release_quiet s to number)
     (λ none. (let may = may_release s to number none in
     subst (λ (t : HopAccount). Moves (hop_at s hop) (hop_at (accept s to (with_released (hop_at s to) (covered_count (hop_at s to) number))) hop) t)
-    (elim (nat_eq to.0 hop.0) as (λ b. cond b nothing nothing ≡ nothing) [ true ↦ refl | false ↦ refl ])
-    (moves_at s hop to (with_released (hop_at s to) (covered_count (hop_at s to) number)) nothing hop_from may.hop_from may.hop_to
+    (elim (nat_eq to.0 hop.0) as (λ b. cond b empty_account empty_account ≡ empty_account) [ true ↦ refl | false ↦ refl ])
+    (moves_at s hop to (with_released (hop_at s to) (covered_count (hop_at s to) number)) empty_account hop_from may.hop_from may.hop_to
     (moves_released (hop_at s to) (covered_count (hop_at s to) number) (omega (arith, may.given))))))
 
--- each row of commands
+-- each list of commands
 pub moves_fold : {P : Type 0} (len : P → ℕ) (s : State P) (commands : List (Command P)) (hop : HopId) → 0 < hop.0
     → Moves (hop_at s hop) (hop_at (fold len s commands) hop) (account_along len hop s commands)
 moves_fold len s [] hop hop_from = no_moves (hop_at s hop)
@@ -332,14 +332,14 @@ moves_fold len s (command ∷ commands) hop hop_from =
     (account_of hop command (step len s command).1) (account_along len hop (step len s command).0 commands)
     (moves_step len s command hop hop_from) (moves_fold len (step len s command).0 commands hop hop_from)
 
--- a pick and a release tell of nothing taken
+-- the account of a pick or a release has no taken id
 pick_takes_none : (P : Type 0) (hop to : HopId) (now : ℕ) (reply : Reply) → (account_of {P = P} hop (Pick to now) reply).taken ≡ []
 pick_takes_none P hop to now (Picked number id expired dropped) =
-    elim (nat_eq to.0 hop.0) as (λ b. (let t : HopAccount = cond b (record { taken = []; dropped = dropped; expired = expired; sent = id ∷ []; numbers = number ∷ [] }) nothing in t.taken) ≡ []) [ true ↦ refl | false ↦ refl ]
+    elim (nat_eq to.0 hop.0) as (λ b. (let t : HopAccount = cond b (record { taken = []; dropped = dropped; expired = expired; sent = id ∷ []; numbers = number ∷ [] }) empty_account in t.taken) ≡ []) [ true ↦ refl | false ↦ refl ]
 pick_takes_none P hop to now (Taken id) = refl
 pick_takes_none P hop to now (Already last) = refl
 pick_takes_none P hop to now (Nothing expired) =
-    elim (nat_eq to.0 hop.0) as (λ b. (let t : HopAccount = cond b (record { taken = []; dropped = []; expired = expired; sent = []; numbers = [] }) nothing in t.taken) ≡ []) [ true ↦ refl | false ↦ refl ]
+    elim (nat_eq to.0 hop.0) as (λ b. (let t : HopAccount = cond b (record { taken = []; dropped = []; expired = expired; sent = []; numbers = [] }) empty_account in t.taken) ≡ []) [ true ↦ refl | false ↦ refl ]
 pick_takes_none P hop to now (Released count) = refl
 pick_takes_none P hop to now Unchanged = refl
 pick_takes_none P hop to now (Bytes payload limit) = refl
@@ -347,7 +347,7 @@ pick_takes_none P hop to now (WindowIs first next) = refl
 pick_takes_none P hop to now (Shown status) = refl
 pick_takes_none P hop to now (Refused refusal) = refl
 
--- what a step takes has the next id
+-- the id that a step takes is the next one
 record Fresh {P : Type 0} (s after : State P) (tells : HopAccount) : Type 0 where
   rises : s.seq ≤ after.seq
   taken : (tells.taken ≡ []) ⊎ ((tells.taken ≡ (s.seq + 1) ∷ []) × (after.seq ≡ s.seq + 1))
@@ -364,8 +364,8 @@ fresh_step len s (Take peer number to stamp limit payload) hop =
     fresh_unless (take_refusal len s peer number to stamp limit (len payload)) s _ hop (Take peer number to stamp limit payload) (take_quiet len s peer number to stamp limit (len payload))
     (record {
       rises = omega arith;
-      taken = elim (nat_eq to.0 hop.0) as (λ b. ((let t : HopAccount = cond b (record { taken = (s.seq + 1) ∷ []; dropped = []; expired = []; sent = []; numbers = [] }) nothing in t.taken) ≡ [])
-          ⊎ (((let t : HopAccount = cond b (record { taken = (s.seq + 1) ∷ []; dropped = []; expired = []; sent = []; numbers = [] }) nothing in t.taken) ≡ (s.seq + 1) ∷ []) × (s.seq + 1 ≡ s.seq + 1))) [ true ↦ inr (refl, refl) | false ↦ inl refl ];
+      taken = elim (nat_eq to.0 hop.0) as (λ b. ((let t : HopAccount = cond b (record { taken = (s.seq + 1) ∷ []; dropped = []; expired = []; sent = []; numbers = [] }) empty_account in t.taken) ≡ [])
+          ⊎ (((let t : HopAccount = cond b (record { taken = (s.seq + 1) ∷ []; dropped = []; expired = []; sent = []; numbers = [] }) empty_account in t.taken) ≡ (s.seq + 1) ∷ []) × (s.seq + 1 ≡ s.seq + 1))) [ true ↦ inr (refl, refl) | false ↦ inl refl ];
     })
 fresh_step {P} len s (Pick to now) hop =
     fresh_unless (pick_refusal s to now) s _ hop (Pick to now) (pick_quiet s to now)
@@ -378,7 +378,7 @@ times_other id x differ =
     let is : ℕ → Bool = λ other. nat_eq other id in
     sym (length-filter is (x ∷ [])) ∙ ap (λ b. length (cond b (x ∷ []) [])) (ne_eqb x id differ)
 
--- no id is taken twice, and none of those that were given before
+-- no id is taken twice, nor is one of those before
 taken_once : {P : Type 0} (len : P → ℕ) (hop : HopId) (s : State P) (commands : List (Command P)) (id : ℕ)
     → (times id (account_along len hop s commands).taken ≤ 1) × (id ≤ s.seq → times id (account_along len hop s commands).taken ≡ 0)
 taken_once len hop s [] id = (omega arith, λ old. refl)
@@ -399,10 +399,10 @@ taken_once {P} len hop s (command ∷ commands) id =
           ])
     ]
 
--- one reply tells of nothing taken at one of two hops
+-- at one of two hops the account of a reply has no taken id
 apart : {P : Type 0} (a b : HopId) → (a.0 ≡ b.0 → ⊥) → (command : Command P) (reply : Reply) → ((account_of a command reply).taken ≡ []) ⊎ ((account_of b command reply).taken ≡ [])
 apart a b differ (Take peer number to stamp limit payload) (Taken id) =
-    let at : Bool → HopAccount = λ is. cond is (record { taken = id ∷ []; dropped = []; expired = []; sent = []; numbers = [] }) nothing in
+    let at : Bool → HopAccount = λ is. cond is (record { taken = id ∷ []; dropped = []; expired = []; sent = []; numbers = [] }) empty_account in
     elim (cases_eq to.0 a.0) [
       | inl here ↦ inr (ap (λ is. (at is).taken) (ne_eqb to.0 b.0 (λ there. differ (sym here ∙ there))))
       | inr elsewhere ↦ inl (ap (λ is. (at is).taken) (ne_eqb to.0 a.0 elsewhere))
@@ -419,7 +419,7 @@ apart a b differ (Take peer number to stamp limit payload) (Refused refusal) = i
 apart {P} a b differ (Pick to now) reply = inl (pick_takes_none P a to now reply)
 apart a b differ (Release to number) reply = inl refl
 
--- one id more keeps two counts at one
+-- one more id keeps two counts at one
 one_more : (id seq after : ℕ) (first : List ℕ) (x y : ℕ) → (first ≡ []) ⊎ ((first ≡ (seq + 1) ∷ []) × (after ≡ seq + 1))
     → (id ≤ after → x ≡ 0) → (id ≤ after → y ≡ 0) → x + y ≤ 1 → times id first + x + y ≤ 1
 one_more id seq after first x y taken old-x old-y below =
@@ -455,7 +455,7 @@ taken_apart {P} len a b differ s (command ∷ commands) id =
           omega (arith, parts-a, parts-b, e, more))
     ]
 
--- what becomes of the items of each hop of a new spool
+-- the items of each hop of a new spool
 pub custody_kept : {P : Type 0} (len : P → ℕ) (params : Params) (commands : List (Command P)) (hop : HopId) → has_hop (new_state {P = P} params) hop ≡ true
     → KeepsCustody (hop_at (fold len (new_state params) commands) hop) (account_along len hop (new_state params) commands)
 custody_kept {P} len params commands hop there =

@@ -1,4 +1,4 @@
--- Rows of commands one after the other, and what a step never changes.
+-- Lists of commands in order, and the part of the state that a step never changes.
 use Rattle.std.proofs.Common.{ℕ, ◌≡◌, ◌+◌, List, [], ◌∷◌, ◌++◌, length, Option, Some, None, refl, arith, ◌∙◌}
 use Rattle.std.specs.Prelude.{IsTrue}
 use Rattle.rly_machine.specs.declared.command.Command.{Command}
@@ -13,18 +13,18 @@ use Rattle.rly_machine.specs.Release.{release_refusal}
 use Rattle.rly_machine.specs.Take.{take_refusal}
 use Rattle.rly_machine.proofs.RealReplies.{counted}
 
--- one row after another
+-- one list after another
 pub fold_append : {P : Type 0} (len : P → ℕ) (s : State P) (front back : List (Command P))
     → fold len s (front ++ back) ≡ fold len (fold len s front) back
 fold_append len s [] back = refl
 fold_append len s (command ∷ front) back = fold_append len (step len s command).0 front back
 
--- one command after a row
+-- one command after a list
 pub fold_push : {P : Type 0} (len : P → ℕ) (s : State P) (front : List (Command P)) (command : Command P)
     → fold len s (front ++ command ∷ []) ≡ (step len (fold len s front) command).0
 fold_push len s front command = fold_append len s front (command ∷ [])
 
--- each command of both rows is accepted
+-- each command of both lists is accepted
 pub accepted_append : {P : Type 0} (len : P → ℕ) (s : State P) (front back : List (Command P))
     → AllAccepted len s front → AllAccepted len (fold len s front) back → AllAccepted len s (front ++ back)
 accepted_append len s [] back all more = more
@@ -41,13 +41,13 @@ accepted_parts len s (command ∷ front) back all =
     let parts = accepted_parts len (step len s command).0 front back all.1 in
     ((all.0, parts.0), parts.1)
 
--- a step by its row of checks
+-- a step by its list of checks
 same_unless : {P X : Type 0} (part : State P → X) (refusal : Option Reply) (s : State P) (accepted : State P × Reply)
     → part accepted.0 ≡ part s → part (unless refusal s accepted).0 ≡ part s
 same_unless part (Some reply) s accepted same = refl
 same_unless part None s accepted same = same
 
--- rows of accepted commands count
+-- accepted commands are counted
 pub seq_fold : {P : Type 0} (len : P → ℕ) (s : State P) (commands : List (Command P))
     → AllAccepted len s commands → (fold len s commands).seq ≡ s.seq + length commands
 seq_fold len s [] all = omega arith

@@ -1,4 +1,4 @@
--- Histories that go on, those that were cut, and the fold of their accepted commands.
+-- Histories that are extended or cut, and the fold of their accepted commands.
 use Rattle.std.proofs.Common.{ℕ, ◌≡◌, ◌+◌, Bool, true, false, true≢false, cond, List, [], ◌∷◌, ◌++◌, length, refl, sym, ap, ◌∙◌, subst, add-zero, length-append, arith}
 use Rattle.rly_machine.specs.declared.command.Ask.{Ask}
 use Rattle.rly_machine.specs.declared.command.Ask.TheVariants as ask
@@ -22,13 +22,13 @@ pub harm_after-append : (harmed : ℕ) (xs ys : List Entry) → harm_after harme
 harm_after-append harmed [] ys = refl
 harm_after-append harmed (x ∷ xs) ys = harm_after-append (harm x.1.reply) xs ys
 
--- a legal history goes on
+-- a legal history can be extended
 pub legal_append : (shown : Reply → Reply) (harmed : ℕ) (s : State (List ℕ)) (xs ys : List Entry)
     → LegalBy shown harmed s xs → LegalBy shown (harm_after harmed xs) (state_after s xs) ys → LegalBy shown harmed s (xs ++ ys)
 legal_append shown harmed s [] ys legal more = more
 legal_append shown harmed s (x ∷ xs) ys legal more = (legal.0, legal_append shown (harm x.1.reply) (next_state s x) xs ys legal.1 more)
 
--- what is legal is legal but for bytes
+-- a legal history is legal but for bytes
 pub legal_but_for_bytes : (harmed : ℕ) (s : State (List ℕ)) (xs : List Entry) → LegalBy (λ reply. reply) harmed s xs → LegalBy without_bytes harmed s xs
 legal_but_for_bytes harmed s [] legal = tt
 legal_but_for_bytes harmed s (x ∷ xs) legal = (
@@ -42,17 +42,17 @@ legal_but_for_bytes harmed s (x ∷ xs) legal = (
   legal_but_for_bytes (harm x.1.reply) (next_state s x) xs legal.1,
 )
 
--- a reply is accepted where the machine's is, whatever bytes it has
+-- a reply accepts if the machine's does, whatever its bytes
 accepted_without : (reply : Reply) → is_accepted (without_bytes reply) ≡ is_accepted reply
 accepted_without (Bytes bytes limit) = refl
 accepted_without _ = refl
 
--- a failure is no acceptance
+-- a failure doesn't accept
 failure_unaccepted : (reply : Reply) → is_failure reply ≡ true → is_accepted reply ≡ false
 failure_unaccepted (Refused refusal) fails = refl
 failure_unaccepted _ fails = absurd (true≢false (sym fails))
 
--- of a command, by what its reply and the machine's are
+-- for a command, from its reply and the machine's
 adds_command : (s : State (List ℕ)) (command : Command (List ℕ)) (fails is stood : Bool) → (fails ≡ true → is ≡ false)
     → (fails ≡ false → is ≡ stood) → is_accepted (step length s command).1 ≡ stood
     → (cond fails s (step length s command).0 ≡ fold length s (cond is (command ∷ []) []))
@@ -69,7 +69,7 @@ same_both : (b : Bool) (s : State (List ℕ)) → cond b s s ≡ s
 same_both true s = refl
 same_both false s = refl
 
--- of an ask
+-- for a request
 adds_ask : (s : State (List ℕ)) (an : Ask) (reply : Reply) → (is_failure reply ≡ false → without_bytes reply ≡ without_bytes (ask_step s an).1)
     → (cond (is_failure reply) s (ask_step s an).0 ≡ fold length s (accepted_by an reply))
     × AllAccepted length s (accepted_by an reply) × ((cond (is_failure reply) s (ask_step s an).0).seq ≡ s.seq + length (accepted_by an reply))

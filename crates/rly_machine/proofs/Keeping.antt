@@ -1,4 +1,4 @@
--- What a machine's fields stand for after a step.
+-- The state of a machine's fields after a step.
 use Rattle.std.proofs.Common.{ℕ, ◌*◌, true, lit<, ◌≡◌, ◌+◌, ◌-◌, ◌<◌, ◌≤◌, List, [], ◌∷◌, ◌++◌, length, get_or, set, take, drop, map, refl, arith, sym, ◌∙◌, ap, subst, None, Vec, sum, sum_by, replicate, Ok, Err, Result}
 use Rattle.std.specs.Result.{OnErr, OnOk}
 use Rattle.std.specs.Vec.{with_item}
@@ -27,7 +27,7 @@ use Rattle.rly_machine.proofs.Refusals.{among, may_pick, may_take, may_release}
 use Rattle.rly_machine.proofs.Picking.{bytes_picked, gone_within, items_picked, sound_pick}
 use Rattle.rly_machine.proofs.Soundness.{sound_take, sound_release, items_taken, bytes_taken, items_released, bytes_released}
 
--- a hop written back with another capacity is the hop that was
+-- a hop written back with another capacity is the same hop
 pub same_hops : {P : Type 0} (hops : List (Hop P)) (i : ℕ) (old new : Hop P) → old ≡ get_or hops i old → hop_state new ≡ hop_state old
     → map hop_state (set hops i new) ≡ map hop_state hops
 same_hops {P} hops i old new read same =
@@ -38,13 +38,13 @@ same_hops {P} hops i old new read same =
     ∙ ap (λ h. map f (set hops i h)) read
     ∙ ap (map f) (set-get_or hops i old)
 
--- so the state stays
+-- so the state is unchanged
 pub same_state : {P A B : Type 0} (params : Params) (hops : Vec (Hop P) A) (lasts : Vec ℕ B) (seq i : ℕ) (old new : Hop P) → old ≡ get_or hops.items i old → hop_state new ≡ hop_state old
     → state_of params (with_item hops i new) lasts seq ≡ state_of params hops lasts seq
 same_state {P} params hops lasts seq i old new read same =
     ap (λ hs. let r : State P = record { params = params; hops = hs; lasts = lasts.items; seq = seq } in r) (same_hops hops.items i old new read same)
 
--- what a success gives, or a failure, gives another fact
+-- a property of a success, or of a failure, implies another
 pub on_ok : {T E : Type 0} (r : Result T E) (A B : Type 0) → (A → B) → OnOk r A → OnOk r B
 on_ok (Ok x) A B f a = f a
 on_ok (Err e) A B f a = a
@@ -53,7 +53,7 @@ pub on_err : {T E : Type 0} (r : Result T E) (A B : Type 0) → (A → B) → On
 on_err (Ok x) A B f a = a
 on_err (Err e) A B f a = f a
 
--- what is told of each hop is told of the one that was written back
+-- a property of each hop is one of the hop that was written back
 pub told_of_written : {P : Type 0} (f : Hop P → ℕ) (hops : List (Hop P)) (i : ℕ) (new : Hop P) → i < length hops
     → get_or (map f (set hops i new)) i 0 ≡ f new
 told_of_written {P} f hops i new below =
@@ -65,7 +65,7 @@ pub told_of_read : {P : Type 0} (f : Hop P → ℕ) (hops : List (Hop P)) (i : �
     → get_or (map f hops) i 0 ≡ f old
 told_of_read {P} f hops i old below read = get_or-map f hops i old 0 below ∙ ap f (sym read)
 
--- a hop read from the fields is the state's
+-- a hop read from the fields is that of the state
 pub read_hop : {P : Type 0} (hops : List (Hop P)) (i : ℕ) (old : Hop P) → i < length hops → old ≡ get_or hops i old → hop_state old ≡ get_or (map hop_state hops) i new_hop
 read_hop {P} hops i old below read =
     let f : Hop P → HopState P = hop_state in
@@ -88,7 +88,7 @@ sound_read {P} len params hops lasts seq items bytes i old kept below read =
     subst (IsSoundHop len params seq) (sym (read_hop hops.items i old below read))
     (All-get_or (IsSoundHop len params seq) (map f hops.items) i new_hop place kept.sound.hops)
 
--- the place of a hop that is there
+-- the index of an existing hop
 pub place_of : {P A B : Type 0} (params : Params) (hops : Vec (Hop P) A) (lasts : Vec ℕ B) (seq : ℕ) (s : State P) (hop : HopId)
     → state_of params hops lasts seq ≡ s → has_hop s hop ≡ true → hop.0 - 1 < length hops.items
 place_of {P} params hops lasts seq s hop same there =
@@ -112,7 +112,7 @@ hop_is_read {P} len params hops lasts seq items bytes s hop index found kept sam
       seq = kept.sound.seq;
     })
 
--- the machine's fields after a Take that no check refuses
+-- the machine's fields after a Take that passes all checks
 pub kept_take : {P A B : Type 0} (len : P → ℕ) (params : Params) (hops : Vec (Hop P) A) (lasts : Vec ℕ B) (seq items bytes : ℕ)
     (peer : PeerId) (number : ℕ) (hop : HopId) (stamp limit : ℕ) (payload : P) (old new : Hop P)
     → KeepsCounts len (state_of params hops lasts seq) items bytes
@@ -139,7 +139,7 @@ kept_take {P} len params hops lasts seq items bytes peer number hop stamp limit 
       }),
     )
 
--- the machine's fields after a Release that no check refuses
+-- the machine's fields after a Release that passes all checks
 pub kept_release : {P A B : Type 0} (len : P → ℕ) (params : Params) (hops : Vec (Hop P) A) (lasts : Vec ℕ B) (seq items bytes : ℕ)
     (hop : HopId) (number gone : ℕ) (old new : Hop P)
     → KeepsCounts len (state_of params hops lasts seq) items bytes
@@ -179,7 +179,7 @@ kept_release {P} len params hops lasts seq items bytes hop number gone old new k
       }),
     )
 
--- the machine's fields after a Pick that no check refuses
+-- the machine's fields after a Pick that passes all checks
 pub kept_pick : {P A B : Type 0} (len : P → ℕ) (params : Params) (hops : Vec (Hop P) A) (lasts : Vec ℕ B) (seq items bytes : ℕ)
     (hop : HopId) (now count gone : ℕ) (old new : Hop P)
     → KeepsCounts len (state_of params hops lasts seq) items bytes
@@ -219,13 +219,13 @@ kept_pick {P} len params hops lasts seq items bytes hop now count gone old new k
       omega (arith, lighter, same_gone, kept.bytes),
     )
 
--- a sum over copies of what counts for nothing
+-- a sum of zeros
 sum_of_none : {X : Type 0} (f : X → ℕ) (n : ℕ) (x : X) → f x ≡ 0 → sum_by f (replicate n x) ≡ 0
 sum_of_none f n x none =
     let product : sum_by f (replicate n x) ≡ n * 0 = sum_by-replicate f n x ∙ ap (λ m. n * m) none in
     omega (arith, product)
 
--- a spool that nothing has come to is sound
+-- a new spool is sound
 pub sound_new : {P : Type 0} (len : P → ℕ) (params : Params) → IsWithinLimits params → IsSound len (new_state params)
 sound_new {P} len params within =
     let zeros : List ℕ = replicate params.peers 0 in
@@ -253,7 +253,7 @@ sound_new {P} len params within =
       seq = omega arith;
     }
 
--- a machine that nothing has come to keeps its counts
+-- a new machine keeps its counts
 pub kept_new : {P : Type 0} (len : P → ℕ) (params found : Params) (hops : List (HopState P)) (lasts : List ℕ) → IsWithinLimits params → found ≡ params
     → hops ≡ replicate params.hops new_hop → lasts ≡ replicate params.peers 0 → KeepsCounts len (record { params = found; hops = hops; lasts = lasts; seq = 0 }) 0 0
 kept_new {P} len params found hops lasts within is made zeros =
@@ -265,7 +265,7 @@ kept_new {P} len params found hops lasts within is made zeros =
       bytes = sym (sum_of_none (λ (h : HopState P). bytes_of len (live_line h)) params.hops new_hop refl);
     })
 
--- one more hop that nothing has come to
+-- one more new hop
 pub one_more : {P : Type 0} (hops now : List (Hop P)) (hop : Hop P) (n : ℕ) → now ≡ hops ++ hop ∷ [] → hop_state hop ≡ new_hop → map hop_state hops ≡ replicate n new_hop
     → map hop_state now ≡ replicate (n + 1) new_hop
 one_more hops now hop n more is made =

@@ -1,5 +1,5 @@
--- A map that keeps the lengths of some payloads: over those payloads alone, each with its proof, it keeps all lengths. So
--- what a map of all payloads goes through, it goes through too.
+-- A map that keeps the lengths of some payloads: over those payloads alone, each with its proof, it keeps all lengths.
+-- So a law for maps that keep all lengths also holds for this one.
 use Rattle.std.proofs.Common.{ℕ, ◌≡◌, ◌+◌, List, [], ◌∷◌, ◌++◌, length, map, arith, refl, sym, ap, subst, ◌∙◌, length-append}
 use Rattle.std.specs.Prelude.{All}
 use Rattle.std.specs.List.{flat_map}
@@ -16,7 +16,7 @@ use Rattle.rly_machine.specs.State.{State, HopState, live_line}
 use Rattle.rly_machine.specs.Step.{step}
 use Rattle.rly_machine.proofs.Mapping.{mapped_step}
 
--- ---- two maps, one after the other
+-- ---- two maps in order
 
 items_twice : {P Q R : Type 0} (f : Q → R) (g : P → Q) (items : List (Item P))
     → map (map_item f) (map (map_item g) items) ≡ map (map_item (λ p. f (g p))) items
@@ -55,7 +55,7 @@ all_left T xs ys all k d lt = subst T (get_or_append_left xs ys d k lt) (all k d
 all_right : {A : Type 0} (T : A → Type 0) (xs ys : List A) → All T (xs ++ ys) → All T ys
 all_right T xs ys all k d lt = subst T (get_or-append-add xs ys k d) (all (length xs + k) d (omega (arith, lt, length-append xs ys)))
 
--- a payload of which something is known
+-- a payload with a known property
 abbrev Known : (P : Type 0) → (P → Type 0) → Type 0
 Known P T = (payload : P) × T payload
 
@@ -114,7 +114,7 @@ lift_command T (Take peer number hop stamp limit payload) all = (Take peer numbe
 lift_command T (Pick hop now) all = (Pick hop now, refl)
 lift_command T (Release hop number) all = (Release hop number, refl)
 
--- ---- and what is known of the payloads of a state that has them so
+-- ---- and with a property of the payloads of a state that has them
 
 known_items : {P : Type 0} (T : P → Type 0) (items : List (Item (Known P T)))
     → All T (payloads (map (map_item (plain T)) items))
@@ -137,7 +137,7 @@ known_hops {P} T (h ∷ hops) =
 
 -- ---- the laws
 
--- one step, where each payload has its proof: it is the step with the proofs left out, and the one of the mapped payloads
+-- one step, if each payload has its proof: the step without the proofs, and the step of the mapped payloads
 step_known : {P Q : Type 0} (len : P → ℕ) (len' : Q → ℕ) (f : P → Q) (s : State (Known P (λ p. len' (f p) ≡ len p))) (command : Command (Known P (λ p. len' (f p) ≡ len p)))
     → let t : State P = map_state (λ known. known.0) s in let c : Command P = map_command (λ known. known.0) command in
     (step len' (map_state f t) (map_command f c) ≡ (map_state f (step len t c).0, (step len t c).1)) × KeepsLengths len len' f (payloads_of (step len t c).0)
@@ -170,7 +170,7 @@ step_map {P} {Q} len len' f s command kept =
     (step len' (map_state f t) (map_command f c) ≡ (map_state f (step len t c).0, (step len t c).1)) × KeepsLengths len len' f (payloads_of (step len t c).0) in
     subst (R s) brought.1 (subst (λ (t : State P). R t (map_command (plain T) brought.0)) known.1 (step_known len len' f known.0 brought.0))
 
--- and so a row of commands
+-- and so a list of commands
 pub fold_map : {P Q : Type 0} (len : P → ℕ) (len' : Q → ℕ) (f : P → Q) (s : State P) (commands : List (Command P))
     → KeepsLengths len len' f (payloads_of s ++ flat_map payload_of commands)
     → fold len' (map_state f s) (map (map_command f) commands) ≡ map_state f (fold len s commands)

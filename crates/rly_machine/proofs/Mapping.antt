@@ -1,11 +1,11 @@
--- A map of payloads that keeps lengths goes through every step.
+-- Each step commutes with a map of payloads that keeps lengths.
 use Rattle.std.proofs.Common.{ℕ, ◌≡◌, ◌+◌, ◌-◌, ◌^◌, List, [], ◌∷◌, ◌++◌, not, cond, ◌||◌, ◌&&◌, take, length, get_or, set, drop, map, refl, arith, sym, ◌∙◌, ap, sum_by, zero, suc, Option, Some, None, max}
 use Rattle.std.specs.Prelude.{nat_lt, nat_le, nat_eq}
 use Rattle.std.specs.List.{prefix_len}
 use Rattle.std.proofs.lemmas.List.{length-map, length-append, map-set, map-append, drop-map, take-map}
 use Rattle.std.proofs.lemmas.List.Sums.{sum_by-cons}
-use Rattle.rly_codel.specs.Cases.{Outcome, dequeue_of}
-use Rattle.rly_codel.specs.Waiting.{Waiting}
+use Rattle.rly_codel.specs.Cases.{DequeueOutcome, dequeue_of}
+use Rattle.rly_codel.specs.LaneItems.{LaneItem}
 use Rattle.rly_codel.specs.declared.state.CodelState.{CodelState}
 use Rattle.rly_core.specs.declared.ids.HopId.{HopId}
 use Rattle.rly_core.specs.declared.ids.PeerId.{PeerId}
@@ -31,7 +31,7 @@ get_mapped f [] i d = refl
 get_mapped f (x ∷ xs) zero d = refl
 get_mapped f (x ∷ xs) (suc i) d = get_mapped f xs i d
 
--- a sum over a mapped list whose terms stay
+-- a sum over a mapped list with the same terms
 pub sum_mapped : {X Y : Type 0} (g : X → ℕ) (h : Y → ℕ) (f : X → Y) → ((x : X) → h (f x) ≡ g x) → (xs : List X) → sum_by h (map f xs) ≡ sum_by g xs
 sum_mapped g h f same [] = refl
 sum_mapped g h f same (x ∷ xs) =
@@ -56,7 +56,7 @@ pub mapped_bytes : {P Q : Type 0} (len : P → ℕ) (len' : Q → ℕ) (f : P �
     → live_bytes len' (map_state f s) ≡ live_bytes len s
 mapped_bytes {P} {Q} len len' f same s = sum_mapped (λ (h : HopState P). bytes_of len (live_line h)) (λ (h : HopState Q). bytes_of len' (live_line h)) (map_hop f) (mapped_bytes_of len len' f same) s.hops
 
--- an answer of a check is the same, and an accepted command leaves the mapped state
+-- the reply of a check is the same, and an accepted command leads to the mapped state
 mapped_unless : {P Q : Type 0} (f : P → Q) (refusal refusal' : Option Reply) (s : State P) (after : State P × Reply) (after' : State Q × Reply)
     → refusal' ≡ refusal → after' ≡ (map_state f after.0, after.1)
     → unless refusal' (map_state f s) after' ≡ (map_state f (unless refusal s after).0, (unless refusal s after).1)
@@ -116,14 +116,14 @@ mapped_release_refusal {P} {Q} f s hop number =
     ∙ ap (λ (h : HopState Q). row (length s.hops) h.released (length h.flight)) (mapped_hop_at f s hop)
     ∙ ap (row (length s.hops) h.released) (length-map h.flight (map_item f))
 
--- CoDel sees the same of a mapped queue
+-- CoDel sees the same items in a mapped queue
 mapped_waiting : {P Q : Type 0} (len : P → ℕ) (len' : Q → ℕ) (f : P → Q) → ((p : P) → len' (f p) ≡ len p) → (queue : List (Item P)) → waiting_of len' (map (map_item f) queue) ≡ waiting_of len queue
 mapped_waiting len len' f same [] = refl
 mapped_waiting {P} len len' f same (item ∷ behind) =
-    ap (λ n. let w : Waiting = record { stamp = item.stamp; bytes = n } in w ∷ waiting_of len' (map (map_item f) behind)) (same item.payload)
-    ∙ ap (λ rest. let w : Waiting = record { stamp = item.stamp; bytes = len item.payload } in w ∷ rest) (mapped_waiting len len' f same behind)
+    ap (λ n. let w : LaneItem = record { stamp = item.stamp; bytes = n } in w ∷ waiting_of len' (map (map_item f) behind)) (same item.payload)
+    ∙ ap (λ rest. let w : LaneItem = record { stamp = item.stamp; bytes = len item.payload } in w ∷ rest) (mapped_waiting len len' f same behind)
 
-mapped_with_picked : {P Q : Type 0} (f : P → Q) (now : ℕ) (outcome : Outcome) (h : HopState P) → with_picked (map_hop f h) now outcome ≡ map_hop f (with_picked h now outcome)
+mapped_with_picked : {P Q : Type 0} (f : P → Q) (now : ℕ) (outcome : DequeueOutcome) (h : HopState P) → with_picked (map_hop f h) now outcome ≡ map_hop f (with_picked h now outcome)
 mapped_with_picked {P} {Q} f now outcome h =
     let n : ℕ = outcome.dropped in
     let with_lists : List (Item Q) → List (Item Q) → HopState Q = λ queue flight. record (map_hop f h) { queue = queue; flight = flight; codel = outcome.state; moment = max now h.moment; dropped = h.dropped + outcome.dropped } in
@@ -159,7 +159,7 @@ mapped_pick_reply {P} {Q} f h late count =
     ∙ ap (picked_reply number (map (λ (item : Item P). item.id) (take late h.queue)) (map (λ (item : Item P). item.id) (take count rest))) (drop-map (map_item f) count rest)
     ∙ mapped_picked_reply f number (map (λ (item : Item P). item.id) (take late h.queue)) (map (λ (item : Item P). item.id) (take count rest)) (drop count rest)
 
--- as many of a mapped queue are past their limit
+-- a mapped queue has the same number of expired items
 mapped_prefix : {P Q : Type 0} (f : P → Q) (now : ℕ) (queue : List (Item P)) → prefix_len (is_expired now) (map (map_item f) queue) ≡ prefix_len (is_expired now) queue
 mapped_prefix f now [] = refl
 mapped_prefix f now (item ∷ behind) = ap (λ n. cond (is_expired now item) (1 + n) 0) (mapped_prefix f now behind)
@@ -175,7 +175,7 @@ mapped_expired_count f now h = mapped_prefix f (max now h.moment) h.queue
 mapped_after_expiry : {P Q : Type 0} (f : P → Q) (now : ℕ) (h : HopState P) → after_expiry (map_hop f h) now ≡ map_hop f (after_expiry h now)
 mapped_after_expiry f now h = ap (with_expired (map_hop f h)) (mapped_expired_count f now h) ∙ mapped_with_expired f (expired_count h now) h
 
--- what CoDel decides of a mapped hop, and what the pick leaves of it
+-- CoDel's decision for a mapped hop, and the hop after the pick
 mapped_outcome : {P Q : Type 0} (len : P → ℕ) (len' : Q → ℕ) (f : P → Q) → ((p : P) → len' (f p) ≡ len p) → (params : Params) (now : ℕ) (h : HopState P)
     → pick_outcome len' params (map_hop f h) now ≡ pick_outcome len params h now
 mapped_outcome {P} {Q} len len' f same params now h =
@@ -220,7 +220,7 @@ mapped_step {P} {Q} len len' f same s (Pick hop now) =
     ∙ ap (λ (g : HopState Q). let r : State Q × Reply = (after, answer g) in r) (mapped_hop_at f s hop)
     ∙ ap (λ (reply : Reply). let r : State Q × Reply = (after, reply) in r)
     (ap (λ n. pick_reply (map_hop f h) n (pick_outcome len' s.params (map_hop f h) now).dropped) (mapped_expired_count f now h)
-    ∙ ap (λ (o : Outcome). pick_reply (map_hop f h) (expired_count h now) o.dropped) (mapped_outcome len len' f same s.params now h)
+    ∙ ap (λ (o : DequeueOutcome). pick_reply (map_hop f h) (expired_count h now) o.dropped) (mapped_outcome len len' f same s.params now h)
     ∙ mapped_pick_reply f h (expired_count h now) (pick_outcome len s.params h now).dropped))
 mapped_step {P} {Q} len len' f same s (Release hop number) =
     let count' : HopState Q → ℕ = λ h. covered_count h number in

@@ -6,8 +6,8 @@ use Rattle.std.proofs.lemmas.List.{append_assoc, drop-drop, get_or-drop, get_or_
 use Rattle.std.proofs.lemmas.List.Elements.{All-append, All-drop, All-get_or, All-weaker}
 use Rattle.std.proofs.lemmas.List.Sums.{prefix_len-le-length, sum_by-append, sum_by-take-drop}
 use Rattle.rly_codel.proofs.Bounds.{dropped-lt, dropped-empty, first_above_time-le, drop_next-le, lastcount-le, count-le}
-use Rattle.rly_codel.specs.Cases.{Outcome}
-use Rattle.rly_codel.specs.Waiting.{Waiting}
+use Rattle.rly_codel.specs.Cases.{DequeueOutcome}
+use Rattle.rly_codel.specs.LaneItems.{LaneItem}
 use Rattle.rly_core.specs.declared.ids.HopId.{HopId}
 use Rattle.rly_core.specs.declared.params.Params.{Params}
 use Rattle.rly_core.specs.Limits.{IsWithinLimits}
@@ -20,7 +20,7 @@ use Rattle.rly_machine.specs.State.{State, HopState, bytes_of, hop_at, live_byte
 use Rattle.rly_machine.proofs.Refusals.{MayPick}
 use Rattle.rly_machine.proofs.Soundness.{bytes_after, items_after, live_later, sound_accept}
 
--- the front of a list and what is after it
+-- the front of a list and the rest
 pub front_all : {X : Type 0} (P : X → Type 0) (xs ys : List X) → All P (xs ++ ys) → All P xs
 front_all P xs ys all k d below =
     let in_all : k < length (xs ++ ys) = omega (arith, length-append xs ys) in
@@ -32,7 +32,7 @@ back_all P xs ys all k d below =
     let same : get_or (xs ++ ys) (length xs + k) d ≡ get_or ys k d = get_or-append-add xs ys k d in
     rw (← same) (all (length xs + k) d in_all)
 
--- an element after items that are gone from the middle
+-- an element after the removed middle items
 behind_gap : {X : Type 0} (xs ys : List X) (n j : ℕ) (d : X) → length xs ≤ j → get_or (xs ++ drop n ys) j d ≡ get_or (xs ++ ys) (length xs + (n + (j - length xs))) d
 behind_gap xs ys n j d past =
     get_or-append_right xs (drop n ys) (length xs) j d refl past
@@ -43,7 +43,7 @@ behind_gap xs ys n j d past =
 before_gap : {X : Type 0} (xs ys : List X) (n i : ℕ) (d : X) → i < length xs → get_or (xs ++ drop n ys) i d ≡ get_or (xs ++ ys) i d
 before_gap xs ys n i d first = get_or_append_left xs (drop n ys) d i first ∙ sym (get_or_append_left xs ys d i first)
 
--- a row in order with some items gone from its middle
+-- a list in order, with middle items removed
 ordered_gap : {X : Type 0} (R : X → X → Type 0) (xs ys : List X) (n : ℕ) → AllPairs R (xs ++ ys) → AllPairs R (xs ++ drop n ys)
 ordered_gap R xs ys n order i j d i<j j<n =
     let in_gap : j < length xs + (length ys - n) = simp (length-append, length-drop) at j<n in
@@ -60,7 +60,7 @@ ordered_gap R xs ys n order i j d i<j j<n =
       ]
     ]
 
--- the items in flight and in the queue after so many were dropped and the next one sent
+-- the items in flight and in the queue after a number were dropped and the next one sent
 picked_line : {X : Type 0} (flight queue : List X) (n : ℕ) → (flight ++ take 1 (drop n queue)) ++ drop 1 (drop n queue) ≡ flight ++ drop n queue
 picked_line flight queue n =
     append_assoc flight (take 1 (drop n queue)) (drop 1 (drop n queue))
@@ -84,24 +84,24 @@ sound_expired len params seq count h within sound = record {
   count = sound.count;
 }
 
--- no more expire than wait
+-- at most the waiting items expire
 pub expired_within : {P : Type 0} (h : HopState P) (now : ℕ) → expired_count h now ≤ length h.queue
 expired_within h now = prefix_len-le-length (is_expired (max now h.moment)) h.queue
 
--- what CoDel's decision has to keep to
-pub record IsFair {P : Type 0} (params : Params) (h : HopState P) (now : ℕ) (outcome : Outcome) : Type 0 where
+-- the bounds of CoDel's decision
+pub record IsFair {P : Type 0} (params : Params) (h : HopState P) (now : ℕ) (outcome : DequeueOutcome) : Type 0 where
   pub dropped : outcome.dropped ≤ length h.queue
   pub first_above_time : outcome.state.first_above_time ≤ max now h.moment + params.interval
   pub drop_next : outcome.state.drop_next ≤ max now h.moment + params.interval
   pub lastcount : outcome.state.lastcount ≤ outcome.state.count
   pub count : outcome.state.count ≤ h.dropped + outcome.dropped
 
--- and keeps to
+-- and its proof
 pub fair_outcome : {P : Type 0} (len : P → ℕ) (params : Params) (seq now : ℕ) (h : HopState P)
     → IsWithinLimits params → IsSoundHop len params seq h → IsFair params h now (outcome_of len params h now)
 fair_outcome {P} len params seq now h within sound =
-    let queue : List Waiting = waiting_of len h.queue in
-    let size : length (waiting_of len h.queue) ≡ length h.queue = length-map h.queue (λ (item : Item P). let w : Waiting = record { stamp = item.stamp; bytes = len item.payload } in w) in
+    let queue : List LaneItem = waiting_of len h.queue in
+    let size : length (waiting_of len h.queue) ≡ length h.queue = length-map h.queue (λ (item : Item P). let w : LaneItem = record { stamp = item.stamp; bytes = len item.payload } in w) in
     let moment : ℕ = max now h.moment in
     let above = first_above_time-le params (max now h.moment) (waiting_of len h.queue) h.codel in
     let next = drop_next-le params (max now h.moment) (waiting_of len h.queue) h.codel (omega (arith, within.interval)) in
@@ -117,7 +117,7 @@ fair_outcome {P} len params seq now h within sound =
     }
 
 -- a hop after an accepted Pick
-pub sound_picked : {P : Type 0} (len : P → ℕ) (params : Params) (seq now : ℕ) (h : HopState P) (outcome : Outcome)
+pub sound_picked : {P : Type 0} (len : P → ℕ) (params : Params) (seq now : ℕ) (h : HopState P) (outcome : DequeueOutcome)
     → now < 2 ^ 52 → length h.flight < params.window → IsFair params h now outcome → IsSoundHop len params seq h
     → IsSoundHop len params (seq + 1) (with_picked h now outcome)
 sound_picked {P} len params seq now h outcome early window fair sound =
@@ -145,8 +145,8 @@ sound_picked {P} len params seq now h outcome early window fair sound =
       count = fair.count;
     }
 
--- what a Pick takes off the live items and bytes: the first so many expired, and those after them were dropped
-pub items_picked : {P : Type 0} (s : State P) (hop : HopId) (now late : ℕ) (outcome : Outcome) → 0 < hop.0 → hop.0 ≤ length s.hops
+-- the live items and bytes that a Pick removes: the first ones expired, and those after them were dropped
+pub items_picked : {P : Type 0} (s : State P) (hop : HopId) (now late : ℕ) (outcome : DequeueOutcome) → 0 < hop.0 → hop.0 ≤ length s.hops
     → late + outcome.dropped ≤ length (hop_at s hop).queue
     → live_items (accept s hop (with_picked (with_expired (hop_at s hop) late) now outcome)) + (late + outcome.dropped) ≡ live_items s
 items_picked {P} s hop now late outcome from to within =
@@ -164,7 +164,7 @@ items_picked {P} s hop now late outcome from to within =
       length-drop late h.queue,
     )
 
-pub bytes_picked : {P : Type 0} (len : P → ℕ) (s : State P) (hop : HopId) (now late : ℕ) (outcome : Outcome)
+pub bytes_picked : {P : Type 0} (len : P → ℕ) (s : State P) (hop : HopId) (now late : ℕ) (outcome : DequeueOutcome)
     → 0 < hop.0 → hop.0 ≤ length s.hops
     → live_bytes len (accept s hop (with_picked (with_expired (hop_at s hop) late) now outcome))
     + bytes_of len (take (late + outcome.dropped) (hop_at s hop).queue) ≡ live_bytes len s
@@ -180,12 +180,12 @@ bytes_picked {P} len s hop now late outcome from to =
     let parts = sum_by-take-drop length_of h.queue (late + outcome.dropped) in
     omega (arith, after, line, new, old, parts)
 
--- a hop without those that expire at a pick
+-- a hop without the items that expire at a pick
 pub sound_after_expiry : {P : Type 0} (len : P → ℕ) (params : Params) (seq now : ℕ) (h : HopState P)
     → IsSoundHop len params seq h → IsSoundHop len params seq (after_expiry h now)
 sound_after_expiry len params seq now h sound = sound_expired len params seq (expired_count h now) h (expired_within h now) sound
 
--- so many expire and are dropped at a pick, of those that wait
+-- the waiting items that expire and are dropped at a pick
 pub gone_within : {P : Type 0} (len : P → ℕ) (params : Params) (seq now : ℕ) (h : HopState P)
     → IsWithinLimits params → IsSoundHop len params seq h
     → expired_count h now + (pick_outcome len params h now).dropped ≤ length h.queue

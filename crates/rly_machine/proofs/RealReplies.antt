@@ -1,4 +1,4 @@
--- No reply of the machine is a failure, and a command changes the state only where its reply says that it was accepted.
+-- No reply of the machine is a failure, and a command changes the state only if its reply accepts it.
 use Rattle.std.proofs.Common.{ℕ, ◌≡◌, ◌+◌, ◌-◌, ◌^◌, ◌||◌, not, map, take, drop, Bool, true, false, true≢false, cond, List, [], ◌∷◌, Option, Some, None, Result, Ok, Err, length, refl, sym, ◌∙◌}
 use Rattle.std.specs.Prelude.{nat_eq, nat_le, nat_lt, slice_get}
 use Rattle.std.specs.Option.{ok_or}
@@ -27,7 +27,7 @@ use Rattle.rly_machine.specs.Query.{fetch_reply, item_of, query_reply, status_of
 use Rattle.rly_machine.specs.Ask.{ask_step}
 use Rattle.rly_machine.specs.History.{is_failure, harm}
 
--- a check's reply is no failure, and no acceptance
+-- a check's reply is no failure, and doesn't accept
 abbrev Refuses : Option Reply → Type 0
 Refuses None = Unit {0}
 Refuses (Some reply) = is_failure reply || is_accepted reply ≡ false
@@ -35,7 +35,7 @@ Refuses (Some reply) = is_failure reply || is_accepted reply ≡ false
 record Checks (o : Option Reply) : Type 0 where
   refuses : Refuses o
 
--- a row of checks
+-- a list of checks
 row : (b : Bool) (reply : Reply) (rest : Option Reply) → is_failure reply || is_accepted reply ≡ false → Checks rest → Checks (cond b (Some reply) rest)
 row true reply rest this others = record { refuses = this }
 row false reply rest this others = others
@@ -61,7 +61,7 @@ checks_release s hop number =
     row (not (has_hop s hop)) (Refused NoSuchHop) _ refl (row (nat_le (next_number (hop_at s hop)) number) (Refused NeverSent) _ refl
     (row (nat_eq (covered_count (hop_at s hop) number) 0) Unchanged _ refl (row (nat_le max_seq s.seq) (Refused Spent) _ refl passes)))
 
--- what a step comes to: a check's reply and the state as it was, or an accepted command's
+-- the result of a step: a check's reply and the unchanged state, or an accepted command's
 record Comes {P : Type 0} (s : State P) (after : State P × Reply) : Type 0 where
   real : is_failure after.1 ≡ false
   stays : is_accepted after.1 ≡ false → after.0 ≡ s
@@ -101,11 +101,11 @@ step_comes len s (Release hop number) = comes (release_refusal s hop number) s _
 pub real_step : {P : Type 0} (len : P → ℕ) (s : State P) (command : Command P) → is_failure (step len s command).1 ≡ false
 real_step len s command = (step_comes len s command).real
 
--- a command that was not accepted leaves the state
+-- a command that was not accepted leaves the state unchanged
 pub unaccepted : {P : Type 0} (len : P → ℕ) (s : State P) (command : Command P) → is_accepted (step len s command).1 ≡ false → (step len s command).0 ≡ s
 unaccepted len s command = (step_comes len s command).stays
 
--- one that was adds one to the count
+-- an accepted one adds one to the count
 pub counted : {P : Type 0} (len : P → ℕ) (s : State P) (command : Command P) → is_accepted (step len s command).1 ≡ true → (step len s command).0.seq ≡ s.seq + 1
 counted len s command = (step_comes len s command).counts
 
@@ -132,7 +132,7 @@ real_cond : (b : Bool) (x y : Reply) → is_failure x ≡ false → is_failure y
 real_cond true x y real others = real
 real_cond false x y real others = others
 
--- nor is one to a question
+-- nor is one to a query
 pub real_query : (s : State (List ℕ)) (query : Query) → is_failure (query_reply s query) ≡ false
 real_query s (Fetch hop number) = fetched_real (item_of s hop number)
     (fetch_row (not (has_hop s hop)) NoSuchHop _ refl (fetch_row (nat_le (next_number (hop_at s hop)) number) NeverSent _ refl
@@ -142,12 +142,12 @@ real_query s (Window hop) =
     real_cond (has_hop s hop) (WindowIs (cond (nat_eq (length h.flight) 0) (next_number h) (h.released + 1)) (next_number h)) (Refused NoSuchHop) refl refl
 real_query s (Show hop) = real_cond (has_hop s hop) (Shown (status_of (hop_at s hop))) (Refused NoSuchHop) refl refl
 
--- no reply to an ask is a failure
+-- no reply to a request is a failure
 pub real_reply : (s : State (List ℕ)) (an : Ask) → is_failure (ask_step s an).1 ≡ false
 real_reply s (ask.Command command) = (step_comes length s command).real
 real_reply s (ask.Query query) = real_query s query
 
--- what is no failure tells of no harm
+-- a reply that isn't a failure reports no damage
 pub harmless : (reply : Reply) → is_failure reply ≡ false → harm reply ≡ 0
 harmless (Refused Broken) real = absurd (true≢false real)
 harmless (Refused Unsure) real = absurd (true≢false real)

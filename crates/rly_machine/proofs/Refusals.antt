@@ -1,4 +1,4 @@
--- What it means that no check of a command fails.
+-- The properties of a command that passes all checks.
 use Rattle.std.proofs.Common.{ℕ, ◌≡◌, ◌+◌, ◌-◌, ◌^◌, ◌<◌, ◌≤◌, Bool, true, false, cond, not, Option, Some, None, length, refl, arith, ◌||◌}
 use Rattle.std.specs.Prelude.{nat_lt, nat_le, nat_eq}
 use Rattle.std.proofs.lemmas.Bool.{not-false, and_parts, or_parts, ltb-true, ltb-false, leb-true, leb-false, eqb-false}
@@ -10,7 +10,7 @@ use Rattle.rly_machine.specs.Pick.{is_idle, pick_refusal}
 use Rattle.rly_machine.specs.Release.{covered_count, release_refusal}
 use Rattle.rly_machine.specs.Take.{take_refusal}
 
--- a check that didn't fail, and the row after it
+-- a check that passed, and the list after it
 pub passed : {X : Type 0} (fails : Bool) (x : X) (rest : Option X) → cond fails (Some x) rest ≡ None → (fails ≡ false) × (rest ≡ None)
 passed true x rest h = absurd (let e : Some x ≡ None = h in cc)
 passed false x rest h = (refl, h)
@@ -21,7 +21,7 @@ among count number h =
     let both = and_parts _ _ h in
     (ltb-true 0 number both.0, leb-true number count both.1)
 
--- what is known of a Take that no check refuses
+-- the properties of a Take that passes all checks
 pub record MayTake {P : Type 0} (len : P → ℕ) (s : State P) (peer : PeerId) (number : ℕ) (hop : HopId) (stamp age bytes : ℕ) : Type 0 where
   pub peer_from : 0 < peer.0
   pub peer_to : peer.0 ≤ length s.lasts
@@ -68,7 +68,7 @@ may_take len s peer number hop stamp limit bytes h =
       seq = leb-false _ _ i.0;
     }
 
--- what is known of a Release that no check refuses
+-- the properties of a Release that passes all checks
 pub record MayRelease {P : Type 0} (s : State P) (hop : HopId) (number : ℕ) : Type 0 where
   pub hop_from : 0 < hop.0
   pub hop_to : hop.0 ≤ length s.hops
@@ -93,7 +93,7 @@ may_release s hop number h =
       seq = leb-false _ _ d.0;
     }
 
--- what is known of a Pick that no check refuses
+-- the properties of a Pick that passes all checks
 pub record MayPick {P : Type 0} (s : State P) (hop : HopId) (now : ℕ) : Type 0 where
   pub hop_there : has_hop s hop ≡ true
   pub hop_from : 0 < hop.0

@@ -1,4 +1,4 @@
--- What a machine is made of counts what is live.
+-- The parts of a machine count the live items and bytes.
 use Rattle.std.proofs.Common.{ℕ, ◌≡◌, ◌+◌, ◌<◌, ◌≤◌, List, length, get_or, take, map, arith, sym, ◌∙◌, ap, sum_by}
 use Rattle.std.proofs.lemmas.List.{length-map}
 use Rattle.std.proofs.lemmas.List.Sums.{sum_by_more, sum_by_more_le}
@@ -8,7 +8,7 @@ use Rattle.rly_machine.specs.State.{HopState, bytes_of, new_hop}
 use Rattle.rly_machine.specs.Kept.{hop_state}
 use Rattle.rly_machine.proofs.Keeping.{read_hop}
 
--- the next hop counts beside those so far
+-- the next hop is added to those before it
 pub counted_more : {P : Type 0} (f : HopState P → ℕ) (hops : List (Hop P)) (i : ℕ) (old : Hop P) → i < length hops → old ≡ get_or hops i old
     → sum_by f (take (i + 1) (map hop_state hops)) ≡ sum_by f (take i (map hop_state hops)) + f (hop_state old)
 counted_more {P} f hops i old below read =
@@ -16,7 +16,7 @@ counted_more {P} f hops i old below read =
     let place : i < length (map view hops) = omega (arith, length-map hops view) in
     sum_by_more f (map view hops) i new_hop place ∙ ap (λ h. sum_by f (take i (map view hops)) + f h) (sym (read_hop hops i old below read))
 
--- and no more than all of them
+-- and is at most all of them
 pub counted_le : {P : Type 0} (f : HopState P → ℕ) (hops : List (Hop P)) (i : ℕ) (old : Hop P) → i < length hops → old ≡ get_or hops i old
     → sum_by f (take i (map hop_state hops)) + f (hop_state old) ≤ sum_by f (map hop_state hops)
 counted_le {P} f hops i old below read =
@@ -26,7 +26,7 @@ counted_le {P} f hops i old below read =
     let same : f (get_or (map view hops) i new_hop) ≡ f (hop_state old) = ap f (sym (read_hop hops i old below read)) in
     omega (arith, all, same)
 
--- the payload bytes of the next item, beside those so far
+-- the payload bytes of the next item, added to those before it
 pub weighed_more : {P : Type 0} (len : P → ℕ) (items : List (Item P)) (i : ℕ) (item : Item P) → i < length items → item ≡ get_or items i item
     → bytes_of len (take (i + 1) items) ≡ bytes_of len (take i items) + len item.payload
 weighed_more {P} len items i item below read =

@@ -1,4 +1,4 @@
--- What holds over whole runs of commands.
+-- Properties of whole runs of commands.
 use Rattle.std.proofs.Common.{ℕ, ◌≡◌, List, [], ◌∷◌, Option, Some, None, refl}
 use Rattle.rly_core.specs.Limits.{IsWithinLimits}
 use Rattle.rly_core.specs.declared.params.Params.{Params}
@@ -18,7 +18,7 @@ use Rattle.rly_machine.proofs.Soundness.{sound_take, sound_release}
 use Rattle.rly_machine.proofs.Picking.{sound_pick}
 use Rattle.rly_machine.proofs.Keeping.{sound_new}
 
--- a step is sound where an accepted command is
+-- a step is sound if an accepted command is
 pub sound_unless : {P : Type 0} (len : P → ℕ) (refusal : Option Reply) (s : State P) (accepted : State P × Reply)
     → IsSound len s → (refusal ≡ None → IsSound len accepted.0) → IsSound len (unless refusal s accepted).0
 sound_unless len None s accepted sound then = then refl
@@ -35,11 +35,11 @@ sound_step len s (Release hop number) sound =
     sound_unless len (release_refusal s hop number) s _ sound
     (λ none. sound_release len s hop number sound (may_release s hop number none))
 
--- and so does each row of commands
+-- and so does each list of commands
 pub sound_fold : {P : Type 0} (len : P → ℕ) (s : State P) (commands : List (Command P)) → IsSound len s → IsSound len (fold len s commands)
 sound_fold len s [] sound = sound
 sound_fold len s (command ∷ commands) sound = sound_fold len (step len s command).0 commands (sound_step len s command sound)
 
--- from a spool that nothing has come to on
+-- from a new spool on
 pub sound_from_new : {P : Type 0} (len : P → ℕ) (params : Params) (commands : List (Command P)) → IsWithinLimits params → IsSound len (fold len (new_state params) commands)
 sound_from_new len params commands within = sound_fold len (new_state params) commands (sound_new len params within)

@@ -16,7 +16,7 @@ use Rattle.rly_machine.specs.Take.{with_taken}
 use Rattle.rly_machine.specs.Sound.{IsSound, IsSoundHop, IsLive, ComesBefore}
 use Rattle.rly_machine.proofs.Refusals.{MayTake, MayRelease}
 
--- what holds of an item, or a hop, holds of it once more commands were accepted and the moment has moved on
+-- a property of an item, or a hop, still holds after more accepted commands and at a later time
 pub live_later : {P : Type 0} (len : P → ℕ) (params : Params) (moment later seq more : ℕ) (item : Item P) → moment ≤ later → seq ≤ more → IsLive len params moment seq item → IsLive len params later more item
 live_later len params moment later seq more item m n live = record { first = live.first; last = omega (arith, live.last); stamp = omega (arith, live.stamp); limit = live.limit; length = live.length }
 
@@ -34,7 +34,7 @@ sound_later {P} len params seq more h n sound = record {
   count = sound.count;
 }
 
--- one more item at the back of a row in order
+-- one more item at the back of a list in order
 pub ordered_push : {X : Type 0} (R : X → X → Type 0) (xs : List X) (y : X) → AllPairs R xs → All (λ x. R x y) xs → AllPairs R (xs ++ y ∷ [])
 ordered_push R xs y order below i j d i<j j<n =
     let in_all : j < length xs + 1 = rw (← length_push xs y) j<n in
@@ -44,7 +44,7 @@ ordered_push R xs y order below i j d i<j j<n =
       | inr past ↦ (let at_end : length xs ≡ j = omega arith in rw (get_or_push xs y d j at_end) (below i d in_front))
     ])
 
--- the back of a row in order
+-- the back of a list in order
 pub ordered_drop : {X : Type 0} (R : X → X → Type 0) (n : ℕ) (xs : List X) → AllPairs R xs → AllPairs R (drop n xs)
 ordered_drop R n xs order i j d i<j j<n =
     let in_all : j < length xs - n = rw (← length-drop n xs) j<n in
@@ -126,7 +126,7 @@ pub bytes_after : {P : Type 0} (len : P → ℕ) (s : State P) (hop : HopId) (h 
     → live_bytes len (accept s hop h) + bytes_of len (live_line (hop_at s hop)) ≡ live_bytes len s + bytes_of len (live_line h)
 bytes_after {P} len s hop h from to = sum_by-set (λ h. bytes_of len (live_line h)) s.hops (hop.0 - 1) h new_hop (omega arith)
 
--- what a Take adds to the live items and bytes
+-- the live items and bytes that a Take adds
 pub items_taken : {P : Type 0} (s : State P) (hop : HopId) (stamp limit : ℕ) (payload : P) → 0 < hop.0 → hop.0 ≤ length s.hops
     → live_items (accept s hop (with_taken (hop_at s hop) (s.seq + 1) stamp limit payload)) ≡ live_items s + 1
 items_taken {P} s hop stamp limit payload from to =
@@ -166,7 +166,7 @@ sound_take {P} len s peer number hop stamp limit payload sound may =
     (omega (arith, items_taken s hop stamp limit payload may.hop_from may.hop_to, may.items))
     (omega (arith, bytes_taken len s hop stamp limit payload may.hop_from may.hop_to, may.room))
 
--- what a Release takes off the live items and bytes
+-- the live items and bytes that a Release removes
 pub items_released : {P : Type 0} (s : State P) (hop : HopId) (count : ℕ) → 0 < hop.0 → hop.0 ≤ length s.hops → count ≤ length (hop_at s hop).flight
     → live_items (accept s hop (with_released (hop_at s hop) count)) + count ≡ live_items s
 items_released {P} s hop count from to within =

@@ -3,7 +3,7 @@ use Rattle.std.proofs.Common.{◌≡◌, ℕ, zero, suc, ◌+◌, ◌-◌, ◌%�
 use Rattle.std.proofs.Math.Nat.{add-mod_right, mod-add-mod, mod-eq_of_lt, mod-mod}
 use Rattle.std.proofs.lemmas.List.{drop-map}
 use Rattle.std.proofs.lemmas.List.Sums.{sum_by-cons}
-use Rattle.rly_codel.specs.Waiting.{Waiting, waiting_bytes}
+use Rattle.rly_codel.specs.LaneItems.{LaneItem, lane_bytes}
 use Rattle.rly_machine.specs.declared.hop.Item.{Item}
 use Rattle.rly_machine.specs.declared.queue.Queued.{Queued}
 use Rattle.rly_machine.specs.HelpersQueue.{AddUp, items_of}
@@ -50,28 +50,28 @@ AddUp-at len total (x ∷ behind) (suc i) q below is all =
     let next : suc i + 1 ≡ suc (i + 1) = omega arith in
     rw next (AddUp-at len total behind i q (omega arith) is all.1)
 
--- so the difference of two totals is what was put in between them
+-- so the difference of two totals is the bytes added between them
 pub between : (total at behind : ℕ) → at < 2 ^ 64 → (at + behind) % 2 ^ 64 ≡ total
     → (total + (2 ^ 64 - at)) % 2 ^ 64 ≡ behind % 2 ^ 64
 between total at behind fits is =
     let whole : at + behind + (2 ^ 64 - at) ≡ behind + 2 ^ 64 = omega arith in
     rw (← is) (mod-add-mod (at + behind) (2 ^ 64) (2 ^ 64 - at) ∙ (rw whole (add-mod_right behind (2 ^ 64))))
 
--- what CoDel sees has the items' payload bytes
-pub waiting_bytes-of : {P : Type 0} (len : P → ℕ) (items : List (Item P)) → waiting_bytes (waiting_of len items) ≡ bytes_of len items
+-- the items as CoDel sees them have the items' payload bytes
+pub waiting_bytes-of : {P : Type 0} (len : P → ℕ) (items : List (Item P)) → lane_bytes (waiting_of len items) ≡ bytes_of len items
 waiting_bytes-of len [] = refl
 waiting_bytes-of {P} len (item ∷ items) =
     let size : Item P → ℕ = λ item. len item.payload in
-    let seen : Waiting → ℕ = λ w. w.bytes in
-    let here : Waiting = record { stamp = item.stamp; bytes = len item.payload } in
+    let seen : LaneItem → ℕ = λ w. w.bytes in
+    let here : LaneItem = record { stamp = item.stamp; bytes = len item.payload } in
     sum_by-cons seen here (waiting_of len items) ∙ ap (λ n. len item.payload + n) (waiting_bytes-of len items) ∙ sym (sum_by-cons size item items)
 
--- where those that wait have fewer than 2 ^ 64 payload bytes, those after an index have what is left of them modulo 2 ^ 64
-pub behind_whole : {P : Type 0} (len : P → ℕ) (items : List (Item P)) (n : ℕ) → waiting_bytes (waiting_of len items) < 2 ^ 64
-    → bytes_of len (drop n items) % 2 ^ 64 ≡ waiting_bytes (drop n (waiting_of len items))
+-- if the waiting items have fewer than 2 ^ 64 payload bytes, those after an index are the difference modulo 2 ^ 64
+pub behind_whole : {P : Type 0} (len : P → ℕ) (items : List (Item P)) (n : ℕ) → lane_bytes (waiting_of len items) < 2 ^ 64
+    → bytes_of len (drop n items) % 2 ^ 64 ≡ lane_bytes (drop n (waiting_of len items))
 behind_whole {P} len items n fits =
-    let seen : Item P → Waiting = λ item. record { stamp = item.stamp; bytes = len item.payload } in
-    let same : waiting_bytes (drop n (waiting_of len items)) ≡ bytes_of len (drop n items) =
-    ap waiting_bytes (drop-map seen n items) ∙ waiting_bytes-of len (drop n items) in
+    let seen : Item P → LaneItem = λ item. record { stamp = item.stamp; bytes = len item.payload } in
+    let same : lane_bytes (drop n (waiting_of len items)) ≡ bytes_of len (drop n items) =
+    ap lane_bytes (drop-map seen n items) ∙ waiting_bytes-of len (drop n items) in
     let below : bytes_of len (drop n items) < 2 ^ 64 = omega (arith, same, behind_le (waiting_of len items) n) in
     mod-eq_of_lt below ∙ sym same

@@ -1,4 +1,4 @@
--- What private functions of the machine, and its invariant, speak of. Nothing here is claimed of it.
+-- Helpers of the machine's private functions and of its invariant. No public contract cites them.
 use Rattle.std.specs.Prelude.{ℕ, ◌≡◌, ◌≤◌, true}
 use Rattle.rly_core.specs.declared.ids.HopId.{HopId}
 use Rattle.rly_machine.specs.declared.hop.Hop.{Hop}
@@ -13,7 +13,7 @@ pub record KeepsCounts {P : Type 0} (len : P → ℕ) (s : State P) (item_count 
   pub items : item_count ≡ live_items s
   pub bytes : byte_count ≡ live_bytes len s
 
--- a hop that was read from a machine is the state's, and sound
+-- a hop that was read from a machine is the state's hop, and is sound
 pub record IsHopAt {P : Type 0} (len : P → ℕ) (s : State P) (hop : HopId) (found : Hop P) : Type 0 where
   pub there : has_hop s hop ≡ true
   pub same : hop_state found ≡ hop_at s hop

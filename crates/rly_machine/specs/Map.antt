@@ -1,4 +1,4 @@
--- A state, and a command, with every payload replaced by what stands for it.
+-- A state, and a command, with each payload replaced by its image under a map.
 use Rattle.std.specs.Prelude.{◌≡◌, ℕ, List, [], ◌∷◌, map, All}
 use Rattle.std.specs.List.{flat_map}
 use Rattle.rly_machine.specs.declared.command.Command.{Command}
@@ -29,7 +29,7 @@ map_command f (Take peer number hop stamp limit payload) = Take peer number hop 
 map_command f (Pick hop now) = Pick hop now
 map_command f (Release hop number) = Release hop number
 
--- the payloads that a state holds, hop by hop, and the one that a command brings
+-- the payloads of a state, hop by hop, and the payload of a command
 abbrev pub payloads_of : {P : Type 0} → State P → List P
 payloads_of s = flat_map (λ h. map (λ item. item.payload) (live_line h)) s.hops
 
@@ -38,6 +38,6 @@ payload_of (Take peer number hop stamp limit payload) = payload ∷ []
 payload_of (Pick hop now) = []
 payload_of (Release hop number) = []
 
--- a map keeps the lengths of payloads; of others it may not
+-- a map keeps the lengths of these payloads; it may change other lengths
 abbrev pub KeepsLengths : {P Q : Type 0} → (P → ℕ) → (Q → ℕ) → (P → Q) → List P → Type 0
 KeepsLengths len len' f payloads = All (λ payload. len' (f payload) ≡ len payload) payloads

@@ -1,11 +1,11 @@
--- Pick: what is past its limit expires, CoDel drops what is due of the rest, and the item after goes into flight.
+-- Pick: expired items are removed, CoDel drops some of the rest, and the next item goes into flight.
 use Rattle.std.specs.Prelude.{ℕ, ◌+◌, ◌^◌, nat_le, ◌==◌, not, ◌&&◌, max, Bool, if◌then◌else◌, Option, Some, None}
 use Rattle.std.specs.Prelude.{List, [], ◌∷◌, ◌++◌, length, map, take, drop}
 use Rattle.rly_core.specs.declared.ids.HopId.{HopId}
 use Rattle.rly_core.specs.declared.params.Params.{Params}
 use Rattle.rly_core.specs.declared.refusal.Refusal.TheVariants.{NoSuchHop, BadMoment, WindowFull, Empty, Spent}
-use Rattle.rly_codel.specs.Cases.{Outcome, dequeue_of}
-use Rattle.rly_codel.specs.Waiting.{Waiting}
+use Rattle.rly_codel.specs.Cases.{DequeueOutcome, dequeue_of}
+use Rattle.rly_codel.specs.LaneItems.{LaneItem}
 use Rattle.rly_machine.specs.declared.hop.Item.{Item}
 use Rattle.rly_machine.specs.declared.reply.Reply.{Reply}
 use Rattle.rly_machine.specs.declared.reply.Reply.TheVariants.{Picked, Nothing, Refused}
@@ -13,11 +13,11 @@ use Rattle.rly_machine.specs.State.{State, HopState, has_hop, hop_at, next_numbe
 use Rattle.rly_machine.specs.Accepted.{accept, max_seq, unless}
 use Rattle.rly_machine.specs.Expiry.{after_expiry, expired_count}
 
--- what CoDel sees of a queue
-abbrev pub waiting_of : {P : Type 0} → (P → ℕ) → List (Item P) → List Waiting
+-- CoDel's view of a queue
+abbrev pub waiting_of : {P : Type 0} → (P → ℕ) → List (Item P) → List LaneItem
 waiting_of len queue = map (λ item. record { stamp = item.stamp; bytes = len item.payload }) queue
 
--- whether there is nothing that a pick would change: no item waits, and CoDel is idle
+-- true if a pick would change nothing: no item waits, and CoDel is idle
 abbrev pub is_idle : {P : Type 0} → HopState P → Bool
 is_idle h = (length h.queue == 0) && ((h.codel.first_above_time == 0) && not h.codel.dropping)
 
@@ -31,8 +31,8 @@ pick_refusal s hop now =
     else if nat_le max_seq s.seq then Some (Refused Spent)
     else None
 
--- what CoDel decides of a hop at a moment, which is not before the hop's last one
-abbrev pub outcome_of : {P : Type 0} → (P → ℕ) → Params → HopState P → ℕ → Outcome
+-- CoDel's decision for a hop at a time, or at the hop's last time if that is later
+abbrev pub outcome_of : {P : Type 0} → (P → ℕ) → Params → HopState P → ℕ → DequeueOutcome
 outcome_of len params h now = dequeue_of params (max now h.moment) (waiting_of len h.queue) h.codel
 
 -- a hop whose first waiting items were dropped
@@ -43,31 +43,31 @@ with_dropped h count = record h { queue = drop count h.queue; dropped = h.droppe
 abbrev pub with_sent : {P : Type 0} → HopState P → HopState P
 with_sent h = record h { queue = drop 1 h.queue; flight = h.flight ++ take 1 h.queue }
 
--- a hop after CoDel decided: the dropped items are gone, and the one after them is in flight
-abbrev pub with_picked : {P : Type 0} → HopState P → ℕ → Outcome → HopState P
+-- a hop after CoDel's decision: the dropped items are gone, and the next item is in flight
+abbrev pub with_picked : {P : Type 0} → HopState P → ℕ → DequeueOutcome → HopState P
 with_picked h now outcome =
     with_sent (with_dropped (record h { codel = outcome.state; moment = max now h.moment }) outcome.dropped)
 
--- what CoDel decides at a pick: of what is left once the expired are gone
-abbrev pub pick_outcome : {P : Type 0} → (P → ℕ) → Params → HopState P → ℕ → Outcome
+-- CoDel's decision at a pick, for the queue without the expired items
+abbrev pub pick_outcome : {P : Type 0} → (P → ℕ) → Params → HopState P → ℕ → DequeueOutcome
 pick_outcome len params h now = outcome_of len params (after_expiry h now) now
 
--- a hop after a pick: the expired and the dropped are gone, and the item after them is in flight
+-- a hop after a pick: the expired and the dropped items are gone, and the next item is in flight
 abbrev pub after_pick : {P : Type 0} → (P → ℕ) → Params → HopState P → ℕ → HopState P
 after_pick len params h now = with_picked (after_expiry h now) now (pick_outcome len params h now)
 
--- the answer where items are left after those that expired and those dropped: the first of them got a number
+-- the reply if items remain after the expired and the dropped ones: the first of them got a number
 abbrev pub picked_reply : {P : Type 0} → ℕ → (expired dropped : List ℕ) → List (Item P) → Reply
 picked_reply number expired dropped [] = Nothing expired
 picked_reply number expired dropped (item ∷ behind) = Picked number item.id expired dropped
 
--- the answer to a pick at which so many expire, and so many of those after them are dropped
+-- the reply to a pick, from the number of items that expire and the number that are dropped after them
 abbrev pub pick_reply : {P : Type 0} → HopState P → (expired dropped : ℕ) → Reply
 pick_reply h expired dropped =
     picked_reply (next_number h) (map (λ item. item.id) (take expired h.queue))
     (map (λ item. item.id) (take dropped (drop expired h.queue))) (drop dropped (drop expired h.queue))
 
--- Pick: a contact is open
+-- the step of Pick
 abbrev pub pick_step : {P : Type 0} → (P → ℕ) → State P → HopId → ℕ → State P × Reply
 pick_step len s hop now = unless (pick_refusal s hop now) s (
   accept s hop (after_pick len s.params (hop_at s hop) now),

@@ -1,4 +1,4 @@
--- The questions: Fetch, Window and Show.
+-- The queries: Fetch, Window and Show.
 use Rattle.std.specs.Prelude.{ℕ, ◌+◌, ◌-◌, ◌<◌, nat_le, ◌==◌, not, if◌then◌else◌}
 use Rattle.std.specs.Prelude.{List, length, slice_get, Result, Ok, Err}
 use Rattle.std.specs.Option.{ok_or}
@@ -13,7 +13,7 @@ use Rattle.rly_machine.specs.declared.reply.Reply.{Reply}
 use Rattle.rly_machine.specs.declared.reply.Reply.TheVariants.{Bytes, WindowIs, Shown, Refused}
 use Rattle.rly_machine.specs.State.{State, HopState, has_hop, hop_at, next_number}
 
--- the item in flight under a custody number, or why there is none
+-- the item in flight under a custody number, or the refusal
 abbrev pub item_of : {P : Type 0} → State P → HopId → ℕ → Result (Item P) Refusal
 item_of s hop number =
     if not (has_hop s hop) then Err NoSuchHop
@@ -34,7 +34,7 @@ window_reply s hop =
     then WindowIs (if length h.flight == 0 then next_number h else h.released + 1) (next_number h)
     else Refused NoSuchHop
 
--- all numbers of a hop
+-- all counters of a hop
 abbrev pub status_of : {P : Type 0} → HopState P → HopStatus
 status_of h = record {
   taken = h.taken;
@@ -51,7 +51,7 @@ status_of h = record {
 abbrev pub show_reply : {P : Type 0} → State P → HopId → Reply
 show_reply s hop = if has_hop s hop then Shown (status_of (hop_at s hop)) else Refused NoSuchHop
 
--- the reply to a question
+-- the reply to a query
 abbrev pub query_reply : State (List ℕ) → Query → Reply
 query_reply s (Fetch hop number) = fetch_reply (item_of s hop number)
 query_reply s (Window hop) = window_reply s hop

@@ -1,4 +1,4 @@
--- Release: the next hop took custody of all in flight up to a number.
+-- Release: the next hop took custody of each datagram in flight up to a number.
 use Rattle.std.specs.Prelude.{ℕ, ◌+◌, ◌-◌, drop, nat_le, ◌==◌, not, if◌then◌else◌, Option, Some, None}
 use Rattle.rly_core.specs.declared.ids.HopId.{HopId}
 use Rattle.rly_core.specs.declared.refusal.Refusal.TheVariants.{NoSuchHop, NeverSent, Spent}
@@ -7,7 +7,7 @@ use Rattle.rly_machine.specs.declared.reply.Reply.TheVariants.{Released, Unchang
 use Rattle.rly_machine.specs.Accepted.{accept, max_seq, unless}
 use Rattle.rly_machine.specs.State.{State, HopState, has_hop, hop_at, next_number}
 
--- how many in flight have a number up to one that was given
+-- the number of datagrams in flight up to a given number
 abbrev pub covered_count : {P : Type 0} → HopState P → ℕ → ℕ
 covered_count h number = number - h.released
 
@@ -24,7 +24,7 @@ release_refusal s hop number =
 abbrev pub with_released : {P : Type 0} → HopState P → ℕ → HopState P
 with_released h count = record h { flight = drop count h.flight; released = h.released + count }
 
--- Release: the next hop took custody of all in flight up to a number
+-- the step of Release
 abbrev pub release_step : {P : Type 0} → State P → HopId → ℕ → State P × Reply
 release_step s hop number = unless (release_refusal s hop number) s (
   accept s hop (with_released (hop_at s hop) (covered_count (hop_at s hop) number)),

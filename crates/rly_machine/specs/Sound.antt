@@ -1,4 +1,4 @@
--- What is true of every state that commands lead to.
+-- The invariant of every state that commands lead to.
 use Rattle.std.specs.Prelude.{ℕ, ◌≡◌, ◌+◌, ◌<◌, ◌≤◌, ◌^◌, length, sum, sum_by, All, AllPairs}
 use Rattle.rly_core.specs.Limits.{IsWithinLimits}
 use Rattle.rly_core.specs.declared.params.Params.{Params}
@@ -11,7 +11,7 @@ pub record ComesBefore {P : Type 0} (first later : Item P) : Type 0 where
   pub id : first.id < later.id
   pub stamp : first.stamp ≤ later.stamp
 
--- an item of a hop whose last moment is given, in a spool with these parameters that accepted so many commands
+-- an item of a hop with the given last time, in a spool with these parameters and this many accepted commands
 pub record IsLive {P : Type 0} (len : P → ℕ) (params : Params) (moment seq : ℕ) (item : Item P) : Type 0 where
   pub first : 1 ≤ item.id
   pub last : item.id ≤ seq
@@ -19,9 +19,9 @@ pub record IsLive {P : Type 0} (len : P → ℕ) (params : Params) (moment seq :
   pub limit : item.limit < 2 ^ 40
   pub length : len item.payload ≤ params.payload
 
--- one hop of a spool that accepted so many commands
+-- one hop of a spool with this many accepted commands
 pub record IsSoundHop {P : Type 0} (len : P → ℕ) (params : Params) (seq : ℕ) (h : HopState P) : Type 0 where
-  -- the books balance: what was taken waits, is in flight, was dropped, expired or was released
+  -- the counts add up: each datagram taken waits, is in flight, was dropped, expired or was released
   pub balance : h.taken ≡ length h.queue + length h.flight + h.dropped + h.expired + h.released
   pub taken : h.taken ≤ seq
   pub moment : h.moment < 2 ^ 52
@@ -40,7 +40,7 @@ pub record IsSound {P : Type 0} (len : P → ℕ) (s : State P) : Type 0 where
   pub peer_count : length s.lasts ≡ s.params.peers
   pub hops : All (IsSoundHop len s.params s.seq) s.hops
   pub lasts : All (λ last. last ≤ s.seq) s.lasts
-  -- what the peers' numbers count is what the hops took
+  -- the peers' sequence numbers add up to the datagrams that the hops took
   pub numbers : sum s.lasts ≡ sum_by (λ h. h.taken) s.hops
   pub items : live_items s ≤ s.params.items
   pub bytes : live_bytes len s ≤ s.params.bytes

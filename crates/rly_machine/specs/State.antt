@@ -8,12 +8,12 @@ use Rattle.rly_codel.specs.Start.{new_codel}
 use Rattle.rly_codel.specs.declared.state.CodelState.{CodelState}
 use Rattle.rly_machine.specs.declared.hop.Item.{Item}
 
--- what contracts see of a queue: the items that wait, the front first, and how many more it holds without memory
+-- a queue in contracts: the waiting items, the front first, and its spare capacity
 pub record QueueState (P : Type 0) : Type 0 where
   pub items : List (Item P)
   pub spare : ℕ
 
--- one next hop: what waits, what is in flight, CoDel's state, the last link moment, and the counts
+-- one next hop: the waiting items, those in flight, CoDel's state, the last time of the link clock, and the counts
 pub record HopState (P : Type 0) : Type 0 where
   pub queue : List (Item P)
   pub flight : List (Item P)
@@ -24,26 +24,25 @@ pub record HopState (P : Type 0) : Type 0 where
   pub expired : ℕ
   pub released : ℕ
 
--- a spool: its parameters, its hops, the last number taken from each peer, and the count of accepted commands
+-- a spool: its parameters, its hops, the last number taken from each peer, and the number of accepted commands
 pub record State (P : Type 0) : Type 0 where
   pub params : Params
   pub hops : List (HopState P)
   pub lasts : List ℕ
   pub seq : ℕ
 
--- what contracts see of a machine: its state and, for each hop, how many more items its queue and its flight hold
--- without memory
+-- a machine in contracts: its state and, for each hop, the spare capacity of its queue and its flight
 pub record Spool (P : Type 0) : Type 0 where
   pub state : State P
   pub queue_spare : List ℕ
   pub flight_spare : List ℕ
 
--- contracts see of the room for a command: how many ids of expired and of dropped items it has room for
+-- the room for a command in contracts: its capacity for ids of expired and of dropped items
 pub record RoomState : Type 0 where
   pub expired : ℕ
   pub dropped : ℕ
 
--- a hop that nothing has come to
+-- a new, empty hop
 abbrev pub new_hop : {P : Type 0} → HopState P
 new_hop = record {
   queue = [];
@@ -56,20 +55,20 @@ new_hop = record {
   released = 0;
 }
 
--- a spool that nothing has come to
+-- a new, empty spool
 abbrev pub new_state : {P : Type 0} → Params → State P
 new_state params =
     record { params = params; hops = replicate params.hops new_hop; lasts = replicate params.peers 0; seq = 0 }
 
--- whether one of so many has this number, counted from 1
+-- true if a number is between 1 and the given count
 abbrev pub is_among : ℕ → ℕ → Bool
 is_among count number = nat_lt 0 number && nat_le number count
 
--- whether there is such a hop
+-- true if the hop exists
 abbrev pub has_hop : {P : Type 0} → State P → HopId → Bool
 has_hop s hop = is_among (length s.hops) hop.0
 
--- whether there is such a peer
+-- true if the peer exists
 abbrev pub has_peer : {P : Type 0} → State P → PeerId → Bool
 has_peer s peer = is_among (length s.lasts) peer.0
 
@@ -97,6 +96,6 @@ live_items s = sum_by (λ h. length (live_line h)) s.hops
 abbrev pub live_bytes : {P : Type 0} → (P → ℕ) → State P → ℕ
 live_bytes len s = sum_by (λ h. bytes_of len (live_line h)) s.hops
 
--- the custody number that the next item in flight gets
+-- the custody number of the next item that goes into flight
 abbrev pub next_number : {P : Type 0} → HopState P → ℕ
 next_number h = h.released + length h.flight + 1

@@ -1,4 +1,4 @@
--- The machine step: what each command does to a state, and the room that it needs.
+-- The machine's step: the effect of each command on a state, and the room that it needs.
 use Rattle.std.specs.Prelude.{ℕ, ◌≡◌, ◌+◌, ◌-◌, ◌<◌, ◌≤◌, ◌⊎◌, slice_index, None}
 use Rattle.rly_core.specs.declared.ids.HopId.{HopId}
 use Rattle.rly_machine.specs.declared.command.Command.{Command}
@@ -16,22 +16,22 @@ step len s (Take peer number hop stamp limit payload) = take_step len s peer num
 step len s (Pick hop now) = pick_step len s hop now
 step len s (Release hop number) = release_step s hop number
 
--- how many items expire at a Pick that no check refuses, and how many it drops of those after them
+-- the number of items that expire at a Pick that passes all checks, and the number that it drops after those
 abbrev pub expires_of : {P : Type 0} → State P → HopId → ℕ → ℕ
 expires_of s hop now = expired_count (hop_at s hop) now
 
 abbrev pub drops_of : {P : Type 0} → (P → ℕ) → State P → HopId → ℕ → ℕ
 drops_of len s hop now = (pick_outcome len s.params (hop_at s hop) now).dropped
 
--- how many ids the reply to a command lists: those of the items that expire at a Pick, and of those that it drops
+-- the numbers of ids in the reply to a command: of the items that expire at a Pick, and of those that it drops
 abbrev pub listed_count : {P : Type 0} → (P → ℕ) → State P → Command P → ℕ
 listed_count len s (Take peer number hop stamp limit payload) = 0
 listed_count len s (Pick hop now) = expires_of s hop now + drops_of len s hop now
 listed_count len s (Release hop number) = 0
 
--- there is room for a command, so that it takes no memory: for a Take that no check refuses one more place in its
--- hop's queue; for a Pick that no check refuses one more place in its hop's flight, and in each list as many ids as it
--- lists there
+-- the room for a command, with which it allocates nothing: for a Take that passes all checks a spare place in its hop's
+-- queue; for a Pick that passes all checks a spare place in its hop's flight, and in each list one for each id that the
+-- reply has there
 abbrev pub HasRoom : {P : Type 0} → (P → ℕ) → Spool P → RoomState → Command P → Type 0
 HasRoom len spool room (Take peer number hop stamp limit payload) =
     take_refusal len spool.state peer number hop stamp limit (len payload) ≡ None
@@ -41,9 +41,8 @@ HasRoom len spool room (Pick hop now) = pick_refusal spool.state hop now ≡ Non
     × (drops_of len spool.state hop now ≤ room.dropped)
 HasRoom len spool room (Release hop number) = Unit {0}
 
--- a command for which memory is wanted: a Take that no check refuses and whose hop's queue has no spare place; and a
--- Pick that no check refuses and whose hop's flight has no spare place, or at which items expire or are dropped, whose
--- ids it lists
+-- a command that allocates: a Take that passes all checks and whose hop's queue has no spare place; and a Pick that
+-- passes all checks and whose hop's flight has no spare place, or whose reply lists ids of expired or dropped items
 abbrev pub NeedsRoom : {P : Type 0} → (P → ℕ) → Spool P → Command P → Type 0
 NeedsRoom len spool (Take peer number hop stamp limit payload) =
     (take_refusal len spool.state peer number hop stamp limit (len payload) ≡ None)

@@ -1,4 +1,4 @@
--- Take: a datagram comes in. Its checks stand in a row: the first that fails is answered, and nothing changes.
+-- Take: a datagram arrives. Its checks run in order: the first that fails gives the reply, and nothing changes.
 use Rattle.std.specs.Prelude.{ℕ, ◌+◌, ◌-◌, ◌^◌, nat_lt, nat_le, ◌||◌, not, max, Bool, if◌then◌else◌}
 use Rattle.std.specs.Prelude.{[], ◌∷◌, ◌++◌, slice_set, Option, Some, None}
 use Rattle.rly_core.specs.declared.ids.HopId.{HopId}
@@ -10,7 +10,7 @@ use Rattle.rly_machine.specs.declared.reply.Reply.TheVariants.{Taken, Already, R
 use Rattle.rly_machine.specs.Accepted.{accept, max_seq, unless}
 use Rattle.rly_machine.specs.State.{State, HopState, has_hop, has_peer, hop_at, last_at, live_items, live_bytes}
 
--- whether a payload of that length finds no room
+-- true if a payload of that length has no room
 abbrev pub is_full : {P : Type 0} → (P → ℕ) → State P → ℕ → Bool
 is_full len s bytes = nat_le s.params.items (live_items s) || nat_lt s.params.bytes (live_bytes len s + bytes)
 
@@ -28,7 +28,7 @@ take_refusal len s peer number hop stamp limit bytes =
     else if nat_le max_seq s.seq then Some (Refused Spent)
     else None
 
--- a hop that took a payload at the back of its queue, not before its last moment
+-- a hop that took a payload at the back of its queue; its stamp is at least the hop's last time
 abbrev pub with_taken : {P : Type 0} → HopState P → (id stamp limit : ℕ) → P → HopState P
 with_taken h id stamp limit payload = record h {
   queue = h.queue ++ (record { id = id; stamp = max stamp h.moment; limit = limit; payload = payload }) ∷ [];
@@ -36,7 +36,7 @@ with_taken h id stamp limit payload = record h {
   taken = h.taken + 1;
 }
 
--- Take: a datagram comes in
+-- the step of Take
 abbrev pub take_step : {P : Type 0} → (P → ℕ) → State P → PeerId → ℕ → HopId → ℕ → ℕ → P → State P × Reply
 take_step len s peer number hop stamp limit payload =
     unless (take_refusal len s peer number hop stamp limit (len payload)) s (

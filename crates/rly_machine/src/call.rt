@@ -1,31 +1,31 @@
 use crate::command::Ask;
 use crate::reply::Reply;
 
-/// The number of a caller of a spool: 0 is the first.
+/// The number of a client of a spool; 0 is the first.
 #[derive(Clone, Copy, PartialEq, Eq)]
 pub struct SeatId(pub u16);
 
-/// What a caller asks, under a number of its own.
+/// A request of a client, with the client's own number.
 #[derive(Drop)]
 pub struct Call {
-    /// Who asks.
+    /// The client.
     pub seat: SeatId,
-    /// The caller's number of the call, counted from 1.
+    /// The client's number of the call, counted from 1.
     pub number: u64,
-    /// What is asked.
+    /// The request.
     pub ask: Ask,
 }
 
-/// What a caller is answered.
+/// The reply to a call, with its sender and number.
 #[derive(Drop)]
 pub struct Answer {
-    /// Who asked.
+    /// The client that sent the call.
     pub seat: SeatId,
-    /// The caller's number of the call.
+    /// The client's number of the call.
     pub number: u64,
     /// The reply.
     pub reply: Reply,
-    /// How many commands were accepted once the reply was made; of a reply that says that the
-    /// journal is Broken or the device failed in this round, how many were before that round.
+    /// The number of accepted commands after the reply; if the reply is that the journal is Broken or the device failed
+    /// in this round, their number before that round.
     pub position: u64,
 }

@@ -1,42 +1,43 @@
 use crate::content::Payload;
 use rly_core::{HopId, PeerId};
 
-/// A change of the spool, over payloads of type `C`.
+/// A command, which may change the spool, over payloads of type `C`.
 #[derive(Debug, Drop)]
 pub enum Command<C> {
-    /// A datagram comes in from a neighbour.
+    /// A datagram arrives from a neighbour.
     Take {
-        /// The neighbour that it comes from.
+        /// The neighbour that sent it.
         peer: PeerId,
-        /// The neighbour's custody number of it, counted from 1.
+        /// The neighbour's custody number for it, counted from 1.
         number: u64,
-        /// The hop that it goes to.
+        /// The hop that it is queued for.
         hop: HopId,
-        /// When it came, in microseconds of the hop's link clock.
+        /// Its arrival time, in microseconds of the hop's link clock.
         stamp: u64,
-        /// How long it may wait in the queue before a Pick takes it away, in microseconds of the hop's link clock; 0 for no limit.
+        /// The longest time that it may wait in the queue before a Pick, in microseconds of the hop's link clock; 0 for
+        /// no limit.
         limit: u64,
-        /// What it carries.
+        /// Its payload.
         payload: C,
     },
-    /// A contact of a hop is open: what is past its limit at the front of the queue expires, and what CoDel lets through of the
-    /// rest goes into flight.
+    /// A contact of a hop is open: expired datagrams at the front of the queue are dropped, CoDel drops some of the
+    /// rest, and the next one goes into flight.
     Pick {
         /// The hop whose queue is picked from.
         hop: HopId,
-        /// The moment, in microseconds of the hop's link clock.
+        /// The current time, in microseconds of the hop's link clock.
         now: u64,
     },
-    /// The next hop took custody of all in flight up to a number.
+    /// The next hop took custody of each datagram in flight up to a number.
     Release {
-        /// The hop that took it.
+        /// The hop that took custody.
         hop: HopId,
         /// The last custody number that it took.
         number: u64,
     },
 }
 
-/// A question that changes nothing.
+/// A query, which changes nothing.
 #[derive(Clone, Copy, Debug, PartialEq, Eq)]
 pub enum Query {
     /// The payload in flight under a custody number.
@@ -46,23 +47,23 @@ pub enum Query {
         /// Its custody number.
         number: u64,
     },
-    /// The custody numbers in flight.
+    /// The range of custody numbers in flight.
     Window {
-        /// The hop that is asked about.
+        /// The hop.
         hop: HopId,
     },
-    /// All numbers of a hop.
+    /// All counters of a hop.
     Show {
-        /// The hop that is asked about.
+        /// The hop.
         hop: HopId,
     },
 }
 
-/// What a caller asks of a spool.
+/// A request of a client.
 #[derive(Debug, Drop)]
 pub enum Ask {
-    /// A change.
+    /// A command, which may change the spool.
     Command(Command<Payload>),
-    /// A question.
+    /// A query, which changes nothing.
     Query(Query),
 }

@@ -3,13 +3,12 @@ ghost use Rattle.std.specs.Prelude.{◌≡◌, ◌<◌, ℕ, List, IfOk, OnErr, 
 use std::alloc::{AllocError, Global};
 use std::marker::Model;
 
-/// What an item carries: the bytes of a payload, or something that stands for them and knows how
-/// many they are, as a place on a device does.
+/// The content of an item: the bytes of a payload, or a reference that knows their length, such as a device address.
 pub trait Content: Drop {
     /// Its length in bytes.
     ghost length_of: { Self → ℕ };
 
-    /// Its length in bytes.
+    /// Returns its length in bytes.
     fn len(&self) -> usize
         ensures { result ≡ length_of self.now };
 }
@@ -27,14 +26,14 @@ impl Model for Payload {
 }
 
 impl Payload {
-    /// The payload of these bytes.
+    /// Makes a payload of these bytes.
     pub fn new(bytes: Vec<u8>) -> Payload
         ensures { result ≡ bytes.items }
     {
         Payload { bytes }
     }
 
-    /// The payload of a copy of these bytes. None takes no memory.
+    /// Makes a payload of a copy of these bytes. Allocates nothing for no bytes.
     pub fn copy_of(alloc: Global, bytes: &[u8]) -> Result<Payload, AllocError>
         ensures ok { IfOk result (λ copy. copy ≡ bytes.now) }
         ensures err { OnErr result (0 < length bytes.now) }
@@ -44,14 +43,14 @@ impl Payload {
         Ok(Payload { bytes: copy })
     }
 
-    /// The bytes.
+    /// Returns the bytes.
     pub fn as_slice(&self) -> &[u8]
         ensures { result.now ≡ self.now }
     {
         self.bytes.as_slice()
     }
 
-    /// The bytes, given back.
+    /// Returns the bytes, and consumes the payload.
     pub fn into_bytes(self) -> Vec<u8>
         ensures { result.items ≡ self }
     {

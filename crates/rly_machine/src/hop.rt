@@ -1,4 +1,5 @@
-ghost use Rattle.std.specs.Prelude.{◌≡◌, ◌+◌, ◌<◌, ◌≤◌, ◌^◌, [], All, OnErr, OnOk, Some, drop, length, map, max, take, vec_capacity};
+ghost use Rattle.std.specs.Prelude.{◌≡◌, ◌+◌, ◌<◌, ◌≤◌, ◌^◌, [], All, OnErr, OnOk, Some, drop, length, map, max, take};
+ghost use Rattle.std.specs.Prelude.{vec_capacity};
 ghost use Rattle.std.specs.VecDeque.{deque_capacity, deque_len};
 ghost use Rattle.rly_machine.specs.Expiry.{is_expired};
 ghost use Rattle.rly_machine.specs.State.{bytes_of};
@@ -17,34 +18,34 @@ use std::collections::VecDeque;
 /// A datagram in custody.
 #[derive(Drop)]
 pub struct Item<C> {
-    /// The sequence number of the command that took it.
+    /// The sequence number of the command that stored it.
     pub id: u64,
-    /// When it came, in microseconds of the hop's link clock.
+    /// Its arrival time, in microseconds of the hop's link clock.
     pub stamp: u64,
-    /// How long it may wait, in microseconds of the hop's link clock; 0 for no limit.
+    /// The longest time that it may wait, in microseconds of the hop's link clock; 0 for no limit.
     pub limit: u64,
-    /// What it carries.
+    /// Its payload.
     pub payload: C,
 }
 
-/// What a spool keeps for one next hop.
+/// The state of a spool for one next hop.
 #[derive(Drop)]
 pub struct Hop<C: Content> {
-    /// The datagrams that wait, in order of taking.
+    /// The waiting datagrams, in order of arrival.
     pub queue: Queue<C>,
-    /// The datagrams in flight, in order; the first has the number `released + 1`.
+    /// The datagrams in flight, in order; the first has the custody number `released + 1`.
     pub flight: VecDeque<Item<C>>,
     /// CoDel's state.
     pub codel: CodelState,
-    /// The last link moment, in microseconds.
+    /// The last time of the link clock, in microseconds.
     pub moment: u64,
-    /// Datagrams ever taken.
+    /// Number of datagrams ever taken.
     pub taken: u64,
-    /// Datagrams dropped by CoDel.
+    /// Number of datagrams that CoDel dropped.
     pub dropped: u64,
-    /// Datagrams that were past their limit when a Pick came.
+    /// Number of datagrams that had expired when a Pick came.
     pub expired: u64,
-    /// Datagrams that the next hop took custody of.
+    /// Number of datagrams that the next hop took custody of.
     pub released: u64,
 }
 
@@ -55,7 +56,7 @@ impl<C: Content> Hop<C> {
     ghost use Rattle.rly_machine.specs.Query.{status_of};
     ghost use Rattle.rly_machine.specs.Take.{with_taken};
 
-    /// A hop that nothing has come to. It takes no memory.
+    /// Makes a new, empty hop. Allocates nothing.
     pub(crate) fn new(alloc: Global) -> Hop<C>
         ensures { hop_state result ≡ new_hop }
     {
@@ -71,7 +72,7 @@ impl<C: Content> Hop<C> {
         }
     }
 
-    /// All numbers of the hop.
+    /// Returns all counters of the hop.
     pub(crate) fn status(&self) -> HopStatus
         ensures { result ≡ status_of (hop_state self.now) }
     {
@@ -87,7 +88,7 @@ impl<C: Content> Hop<C> {
         }
     }
 
-    /// Makes room for one more datagram in the queue. Where memory is refused, the hop is as it was.
+    /// Reserves room for one more datagram in the queue. If the allocation fails, the hop is unchanged.
     pub(crate) fn reserve_queue(&mut self) -> Result<(), AllocError>
         ensures hop { hop_state self.new ≡ hop_state self.old }
         ensures room { OnOk result (0 < self.new.queue.spare) }
@@ -97,7 +98,7 @@ impl<C: Content> Hop<C> {
         self.queue.reserve_one()
     }
 
-    /// Makes room for one more datagram in flight. Where memory is refused, the hop is as it was.
+    /// Reserves room for one more datagram in flight. If the allocation fails, the hop is unchanged.
     pub(crate) fn reserve_flight(&mut self) -> Result<(), AllocError>
         ensures hop { hop_state self.new ≡ hop_state self.old }
         ensures room { OnOk result (deque_len self.new.flight < deque_capacity self.new.flight) }
@@ -108,7 +109,7 @@ impl<C: Content> Hop<C> {
         reserve_one(&mut self.flight)
     }
 
-    /// The custody number that the next datagram in flight gets.
+    /// Returns the custody number of the next datagram that goes into flight.
     pub(crate) fn next_number(&self) -> u64
         requires { self.now.released + length self.now.flight.items + 1 < 2 ^ 64 }
         ensures { result ≡ next_number (hop_state self.now) }
@@ -116,14 +117,14 @@ impl<C: Content> Hop<C> {
         self.released + self.flight.len() as u64 + 1
     }
 
-    /// Whether there is nothing that a pick would change.
+    /// Returns true iff a pick would change nothing.
     pub(crate) fn is_idle(&self) -> bool
         ensures { result ≡ is_idle (hop_state self.now) }
     {
         self.queue.is_empty() && self.codel.first_above_time == 0 && !self.codel.dropping
     }
 
-    /// Puts a datagram at the back of the queue, not before the last moment.
+    /// Puts a datagram at the back of the queue. Its stamp is at least the hop's last time.
     pub(crate) fn take(&mut self, id: u64, stamp: u64, limit: u64, payload: C)
         requires room { 0 < self.old.queue.spare }
         requires count { self.old.taken + 1 < 2 ^ 64 }
@@ -152,7 +153,7 @@ impl<C: Content> Hop<C> {
     ghost use Rattle.rly_core.specs.Limits.{IsWithinLimits};
     ghost use Rattle.rly_machine.specs.State.{live_line};
 
-    /// How many datagrams it keeps, in flight and waiting.
+    /// Returns the number of datagrams in flight and waiting.
     pub fn live_items(&self) -> u64
         requires { length (live_line (hop_state self.now)) < 2 ^ 64 }
         ensures { result ≡ length (live_line (hop_state self.now)) }
@@ -160,7 +161,7 @@ impl<C: Content> Hop<C> {
         self.flight.len() as u64 + self.queue.len() as u64
     }
 
-    /// How many payload bytes those have.
+    /// Returns the number of payload bytes in flight and waiting.
     pub fn live_bytes(&self) -> u64
         requires { bytes_of C.length_of (live_line (hop_state self.now)) < 2 ^ 64 }
         ensures { result ≡ bytes_of C.length_of (live_line (hop_state self.now)) }
@@ -168,7 +169,8 @@ impl<C: Content> Hop<C> {
         payload_bytes(&self.flight) + self.queue.bytes()
     }
 
-    /// Has a live datagram carry other content of the same length. Those in flight are counted first.
+    /// Replaces the content of a live datagram by other content of the same length. The index counts those in flight
+    /// first.
     pub(crate) fn relocate(&mut self, index: usize, content: C)
         requires { carried_at C.length_of (live_line (hop_state self.old)) index ≡ Some (C.length_of content) }
         ensures { hop_state self.new ≡ with_relocated (hop_state self.old) index content }
@@ -181,13 +183,14 @@ impl<C: Content> Hop<C> {
         }
     }
 
-    /// Lets go of the first so many in flight, and answers how many payload bytes they had.
+    /// Removes the first `count` in flight, and returns their number of payload bytes.
     pub(crate) fn release(&mut self, count: usize) -> u64
         requires flight { count ≤ length self.old.flight.items }
         requires bytes { bytes_of C.length_of self.old.flight.items < 2 ^ 64 }
         requires count_fits { self.old.released + count < 2 ^ 64 }
         ensures hop { hop_state self.new ≡ with_released (hop_state self.old) count }
-        ensures bytes { result + bytes_of C.length_of self.new.flight.items ≡ bytes_of C.length_of self.old.flight.items }
+        ensures bytes { result + bytes_of C.length_of self.new.flight.items
+            ≡ bytes_of C.length_of self.old.flight.items }
     {
         let mut bytes = 0;
         for _item in 0..count {
@@ -199,8 +202,9 @@ impl<C: Content> Hop<C> {
         bytes
     }
 
-    /// Picks at a moment, not before the last one: what is past its limit expires, CoDel drops what is due of the rest, and the
-    /// datagram after goes into flight. Answers the reply, and how many datagrams and payload bytes expired or were dropped.
+    /// Picks at `now`, or at the hop's last time if that is later: expired datagrams are removed, CoDel drops some of
+    /// the rest, and the next one goes into flight. Returns the reply, and the number of datagrams and payload bytes
+    /// that expired or were dropped.
     pub(crate) fn pick(&mut self, now: u64, rules: &Rules, room: Room) -> (Reply, Gone)
         requires params { IsWithinLimits rules.now }
         requires moment { now < 2 ^ 52 }
@@ -230,7 +234,8 @@ impl<C: Content> Hop<C> {
         (self.send(number, expired, dropped), first.and(second))
     }
 
-    /// How many datagrams at the front of the queue are past their limit at a moment, not before the last one.
+    /// Returns the number of datagrams at the front of the queue that have expired at `now`, or at the hop's last time
+    /// if that is later.
     pub(crate) fn expired_count(&self, now: u64) -> usize
         requires sound { All (λ item. item.stamp ≤ self.now.moment) self.now.queue.items }
         ensures count { result ≡ expired_count (hop_state self.now) now }
@@ -245,16 +250,18 @@ impl<C: Content> Hop<C> {
         self.queue.len()
     }
 
-    /// What CoDel decides at a moment, not before the last one, of what is left once the first so many expired: the state that it
-    /// would leave, and how many datagrams it would drop. Nothing changes.
+    /// Returns CoDel's decision at `now`, or at the hop's last time if that is later, for the queue without its first
+    /// `from` datagrams: the new state, and the number of drops. Changes nothing.
     pub(crate) fn decide(&self, now: u64, from: usize, rules: &Rules) -> (CodelState, usize)
         requires params { IsWithinLimits rules.now }
         requires moment { now < 2 ^ 52 }
         requires sound { IsSoundHop C.length_of rules.now max_seq (hop_state self.now) }
         requires bytes { bytes_of C.length_of self.now.queue.items < 2 ^ 64 }
         requires from { from ≤ length self.now.queue.items }
-        ensures state { result.0 ≡ (outcome_of C.length_of rules.now (with_expired (hop_state self.now) from) now).state }
-        ensures dropped { result.1 ≡ (outcome_of C.length_of rules.now (with_expired (hop_state self.now) from) now).dropped }
+        ensures state { result.0
+            ≡ (outcome_of C.length_of rules.now (with_expired (hop_state self.now) from) now).state }
+        ensures dropped { result.1
+            ≡ (outcome_of C.length_of rules.now (with_expired (hop_state self.now) from) now).dropped }
         ensures within { result.1 ≤ length (drop from self.now.queue.items) }
     {
         let now = now.max(self.moment);
@@ -264,7 +271,7 @@ impl<C: Content> Hop<C> {
         (codel, verdict.dropped)
     }
 
-    /// Takes the first so many out of the queue, and lists their ids.
+    /// Removes the first `count` from the queue, and lists their ids.
     fn take_front(&mut self, count: usize, ids: &mut Vec<u64>) -> Gone
         requires count { count ≤ length self.old.queue.items }
         requires bytes { bytes_of C.length_of self.old.queue.items < 2 ^ 64 }
@@ -311,7 +318,7 @@ impl<C: Content> Hop<C> {
     }
 }
 
-/// Whether a datagram is past its limit at a moment, not before it came.
+/// Returns true iff a datagram has expired at a time that is not before its arrival.
 fn is_expired<C>(item: &Item<C>, now: u64) -> bool
     requires { item.now.stamp ≤ now }
     ensures { result ≡ is_expired now item.now }
@@ -319,7 +326,7 @@ fn is_expired<C>(item: &Item<C>, now: u64) -> bool
     item.limit > 0 && now - item.stamp > item.limit
 }
 
-/// How many payload bytes items have.
+/// Returns the number of payload bytes of items.
 fn payload_bytes<C: Content>(items: &VecDeque<Item<C>>) -> u64
     requires { bytes_of C.length_of items.now.items < 2 ^ 64 }
     ensures { result ≡ bytes_of C.length_of items.now.items }
@@ -332,7 +339,7 @@ fn payload_bytes<C: Content>(items: &VecDeque<Item<C>>) -> u64
     bytes
 }
 
-/// What left a queue at one pick without being sent.
+/// The datagrams that left a queue at one pick without being sent.
 #[derive(Clone, Copy, PartialEq, Eq)]
 pub(crate) struct Gone {
     pub(crate) items: u64,
@@ -340,7 +347,7 @@ pub(crate) struct Gone {
 }
 
 impl Gone {
-    /// What both left out.
+    /// Adds both.
     fn and(self, other: Gone) -> Gone
         requires items { self.items + other.items < 2 ^ 64 }
         requires bytes { self.bytes + other.bytes < 2 ^ 64 }
@@ -358,7 +365,7 @@ impl<C: Content> Hop<C> {
     ghost use Rattle.rly_machine.specs.Kept.{hop_state};
     ghost use Rattle.rly_machine.specs.State.{new_hop};
 
-    /// So many hops that nothing has come to.
+    /// Makes `count` new, empty hops.
     pub(crate) fn many(alloc: Global, count: u64) -> Result<Vec<Hop<C>>, AllocError>
         ensures { IfOk result (λ hops. map hop_state hops.items ≡ replicate count new_hop) }
     {

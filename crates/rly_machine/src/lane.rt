@@ -1,5 +1,5 @@
 ghost use Rattle.std.specs.Prelude.{◌≡◌, ◌+◌, ◌<◌, ◌≤◌, ◌^◌, List, drop, length};
-ghost use Rattle.rly_codel.specs.Waiting.{Waiting, waiting_bytes};
+ghost use Rattle.rly_codel.specs.LaneItems.{LaneItem, lane_bytes};
 ghost use Rattle.rly_machine.specs.Pick.{waiting_of};
 
 use crate::content::Content;
@@ -7,30 +7,31 @@ use crate::queue::Queue;
 use rly_codel::Lane;
 use std::marker::Model;
 
-/// A hop's queue as CoDel sees it, without so many at its front.
+/// A hop's queue as CoDel sees it, without its first `from` items.
 #[derive(Drop)]
 pub(crate) struct QueueLane<'a, C: Content> {
     queue: &'a Queue<C>,
-    /// How many at the front aren't seen.
+    /// The number of items at the front that are left out.
     from: usize,
-    /// How many are.
+    /// The number of items that are seen.
     count: usize,
 }
 
 impl<'a, C: Content> Model for QueueLane<'a, C> {
-    ghost Value = { List Waiting };
+    ghost Value = { List LaneItem };
 
     ghost view = { λ lane. waiting_of C.length_of (drop lane.from lane.queue.now.items) };
 
-    ghost invariant = { λ lane. (lane.from + lane.count ≡ length lane.queue.now.items) × (lane.from + lane.count < 2 ^ 63)
-        × (waiting_bytes (waiting_of C.length_of (drop lane.from lane.queue.now.items)) < 2 ^ 64) };
+    ghost invariant = { λ lane. (lane.from + lane.count ≡ length lane.queue.now.items)
+        × (lane.from + lane.count < 2 ^ 63)
+        × (lane_bytes (waiting_of C.length_of (drop lane.from lane.queue.now.items)) < 2 ^ 64) };
 }
 
 impl<'a, C: Content> QueueLane<'a, C> {
-    /// What waits after the first so many.
+    /// Makes a view of the queue without its first `from` items.
     pub(crate) fn new(queue: &'a Queue<C>, from: usize) -> QueueLane<'a, C>
         requires from { from ≤ length queue.now.items }
-        requires bytes { waiting_bytes (waiting_of C.length_of (drop from queue.now.items)) < 2 ^ 64 }
+        requires bytes { lane_bytes (waiting_of C.length_of (drop from queue.now.items)) < 2 ^ 64 }
         ensures { result ≡ waiting_of C.length_of (drop from queue.now.items) }
     {
         let count = queue.len() - from;

@@ -1,9 +1,9 @@
-//! The plain machine: the state of a spool in memory, and what each command does to it.
+//! The state machine of a spool (the queues of stored datagrams): its state in memory, and the
+//! effect of each command on it.
 //!
-//! `specs/State.antt` says what a state is, and `specs/Step.antt` what a command does to it. Both
-//! are over any payload that has a length. `Machine::apply` is the specified step: checks run in
-//! order, a refusal changes nothing, and it never allocates. `Machine::reserve_for` makes its
-//! room before. It takes no handle. The journal and `rly sim` run their commands on it.
+//! `specs/State.antt` defines the state and `specs/Step.antt` the step. `Machine::apply` is
+//! exactly that step, over any payload that has a length: checks run in order, a refusal changes
+//! nothing, and it never allocates (`reserve_for` does). Callers: the journal, `rly sim`.
 #![tactic(auto)]
 
 mod call;

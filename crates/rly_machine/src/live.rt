@@ -5,17 +5,17 @@ ghost use Rattle.rly_machine.specs.State.{bytes_of, live_line};
 use crate::content::Content;
 use crate::hop::Hop;
 
-/// What hops keep, in flight and waiting.
+/// The datagrams of hops, in flight and waiting.
 #[derive(Clone, Copy, PartialEq, Eq)]
 pub(crate) struct Live {
-    /// How many datagrams.
+    /// Number of datagrams.
     pub(crate) items: u64,
-    /// How many payload bytes those have.
+    /// Their number of payload bytes.
     pub(crate) bytes: u64,
 }
 
 impl Live {
-    /// Counts it.
+    /// Counts those of hops.
     pub(crate) fn of<C: Content>(hops: &[Hop<C>]) -> Live
         requires items { sum_by (λ h. length (live_line h)) (map hop_state hops.now) < 2 ^ 64 }
         requires bytes { sum_by (λ h. bytes_of C.length_of (live_line h)) (map hop_state hops.now) < 2 ^ 64 }

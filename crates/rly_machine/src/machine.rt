@@ -1,16 +1,18 @@
-ghost use Rattle.std.specs.Prelude.{◌≡◌, ◌+◌, ◌-◌, ◌<◌, ◌≤◌, Err, IfErr, IfOk, IsOk, IsTrue, MatchOption, Ok, OnErr, OnOk, Some, false, length, map, slice_get, slice_index};
+ghost use Rattle.std.specs.Prelude.{◌≡◌, ◌+◌, ◌-◌, ◌<◌, ◌≤◌, Err, IfErr, IfOk, IsOk, IsTrue, MatchOption, Ok, OnErr};
+ghost use Rattle.std.specs.Prelude.{OnOk, Some, false, length, map, slice_get, slice_index};
 ghost use Rattle.std.specs.Option.{SomeIff};
 ghost use Rattle.rly_core.specs.Limits.{IsWithinLimits};
 ghost use Rattle.rly_machine.specs.HelpersMachine.{IsHopAt};
 ghost use Rattle.rly_machine.specs.Kept.{hop_state};
 ghost use Rattle.rly_machine.specs.Sound.{IsSound};
-ghost use Rattle.rly_machine.specs.State.{has_hop, has_peer, hop_at, last_at, live_bytes, live_items, live_line, new_state};
+ghost use Rattle.rly_machine.specs.State.{has_hop, has_peer, hop_at, last_at, live_bytes, live_items, live_line};
+ghost use Rattle.rly_machine.specs.State.{new_state};
 ghost use Rattle.rly_machine.specs.Step.{HasRoom, NeedsRoom, drops_of, expires_of, listed_count, step};
 ghost use Rattle.rly_machine.specs.Query.{item_of, show_reply, window_reply};
 ghost use Rattle.rly_machine.specs.Take.{take_refusal, take_step};
 ghost use Rattle.rly_machine.specs.Pick.{pick_refusal, pick_step};
 ghost use Rattle.rly_machine.specs.Release.{covered_count, release_refusal, release_step};
-ghost use Rattle.rly_machine.specs.Relocate.{carried_at, relocated};
+ghost use Rattle.rly_machine.specs.Relocate.{carried_at, state_with_relocated};
 
 use crate::command::{Ask, Command, Query};
 use crate::content::{Content, Payload};
@@ -23,8 +25,8 @@ use rly_core::{HopId, Params, PeerId, Refusal, limits};
 use std::alloc::{AllocError, Global};
 use std::marker::Model;
 
-/// A spool in memory, over payloads of type `C`. Contracts see its state, and how many more items
-/// each queue holds without memory.
+/// A spool in memory, over payloads of type `C`. In contracts it is its state and the spare capacity of each queue and
+/// flight.
 #[derive(Drop)]
 pub struct Machine<C: Content> {
     rules: Rules,
@@ -42,15 +44,21 @@ impl<C: Content> Model for Machine<C> {
 
     ghost Value = { Spool C };
 
-    ghost view = { λ m. record { state = state_of m.rules m.hops m.lasts m.seq; queue_spare = queue_spare_of m.hops; flight_spare = flight_spare_of m.hops } };
+    ghost view = { λ m.
+        record {
+          state = state_of m.rules m.hops m.lasts m.seq;
+          queue_spare = queue_spare_of m.hops;
+          flight_spare = flight_spare_of m.hops;
+        } };
 
-    ghost invariant = { λ m. KeepsCounts C.length_of (state_of m.rules m.hops m.lasts m.seq) m.live_items m.live_bytes };
+    ghost invariant = { λ m. KeepsCounts C.length_of
+        (state_of m.rules m.hops m.lasts m.seq) m.live_items m.live_bytes };
 }
 
 impl<C: Content> Machine<C> {
     ghost use Rattle.rly_machine.specs.Kept.{state_of};
 
-    /// A spool that nothing has come to.
+    /// Makes a new, empty spool.
     pub fn new(alloc: Global, params: Params) -> Result<Machine<C>, AllocError>
         requires { IsWithinLimits params }
         ensures { IfOk result (λ machine. machine.state ≡ new_state params) }
@@ -67,7 +75,8 @@ impl<C: Content> Machine<C> {
         })
     }
 
-    /// The spool of a state that was kept elsewhere. It takes no memory, so it is always `Ok`, and counts what is live.
+    /// Makes a spool of a state that was loaded from elsewhere, and counts its live datagrams and bytes. Allocates
+    /// nothing, so it is always `Ok`.
     pub fn restore(
         params: Params,
         seq: u64,
@@ -89,56 +98,56 @@ impl<C: Content> Machine<C> {
         })
     }
 
-    /// What is true of every machine's state.
+    /// The invariant of every machine's state, as a law.
     pub fn law_sound(&self)
         ensures { IsSound C.length_of self.now.state }
     {
         let _ = &self.rules;
     }
 
-    /// The spool's parameters.
+    /// Returns the spool's parameters.
     pub fn params(&self) -> Params
         ensures { result ≡ self.now.state.params }
     {
         self.rules.params()
     }
 
-    /// The count of accepted commands.
+    /// Returns the number of accepted commands.
     pub fn seq(&self) -> u64
         ensures { result ≡ self.now.state.seq }
     {
         self.seq
     }
 
-    /// How many datagrams are live.
+    /// Returns the number of live datagrams.
     pub fn item_count(&self) -> u64
         ensures { result ≡ live_items self.now.state }
     {
         self.live_items
     }
 
-    /// How many payload bytes are live.
+    /// Returns the number of live payload bytes.
     pub fn byte_count(&self) -> u64
         ensures { result ≡ live_bytes C.length_of self.now.state }
     {
         self.live_bytes
     }
 
-    /// The last number taken from each peer, in the order of their numbers.
+    /// Returns the last number taken from each peer, in the order of the peers' numbers.
     pub fn lasts(&self) -> &[u64]
         ensures { result.now ≡ self.now.state.lasts }
     {
         self.lasts.as_slice()
     }
 
-    /// The hops with all that they keep, in the order of their numbers.
+    /// Returns the hops with their datagrams, in the order of their numbers.
     pub fn hops(&self) -> &[Hop<C>]
         ensures { map hop_state result.now ≡ self.now.state.hops }
     {
         self.hops.as_slice()
     }
 
-    /// The last number taken from a peer.
+    /// Returns the last number taken from a peer.
     pub fn last(&self, peer: PeerId) -> u64
         requires { IsTrue (has_peer self.now.state peer) }
         ensures { result ≡ last_at self.now.state peer }
@@ -147,7 +156,7 @@ impl<C: Content> Machine<C> {
         self.lasts[place]
     }
 
-    /// An item that waits at a hop, counted from 0 at the front of its queue.
+    /// Returns a waiting item of a hop; index 0 is the front of its queue.
     pub fn queued(&self, hop: HopId, index: usize) -> &Item<C>
         requires there { IsTrue (has_hop self.now.state hop) }
         requires waits { index < length (hop_at self.now.state hop).queue }
@@ -156,21 +165,24 @@ impl<C: Content> Machine<C> {
         self.hops[hop.0 as usize - 1].queue.item(index)
     }
 
-    /// Has a live item of a hop carry other content of the same length, as where its payload moved to another place. Items in
-    /// flight are counted first, from 0, then those that wait. It takes no memory.
+    /// Replaces the content of a live item of a hop by other content of the same length, for example after its payload
+    /// moved to another device address. The index counts the items in flight first, from 0, then those that wait.
+    /// Allocates nothing.
     pub fn relocate(&mut self, hop: HopId, index: usize, content: C)
         requires there { IsTrue (has_hop self.old.state hop) }
-        requires live { carried_at C.length_of (live_line (hop_at self.old.state hop)) index ≡ Some (C.length_of content) }
-        ensures { self.new.state ≡ relocated self.old.state hop index content }
+        requires live { carried_at C.length_of (live_line (hop_at self.old.state hop)) index
+            ≡ Some (C.length_of content) }
+        ensures { self.new.state ≡ state_with_relocated self.old.state hop index content }
     {
         self.hops[hop.0 as usize - 1].relocate(index, content);
     }
 
-    /// Makes the memory that a command may need. Where it is refused, the state is as it was.
+    /// Allocates the memory that a command may need. If that fails, the state is unchanged.
     pub fn reserve_for(&mut self, alloc: Global, command: &Command<C>) -> Result<Room, AllocError>
         ensures state { self.new.state ≡ self.old.state }
         ensures room { IfOk result (λ room. HasRoom C.length_of self.new room command.now) }
-        ensures bounded { IfOk result (λ room. room.expired + room.dropped ≤ listed_count C.length_of self.old.state command.now) }
+        ensures bounded { IfOk result
+            (λ room. room.expired + room.dropped ≤ listed_count C.length_of self.old.state command.now) }
         ensures memory { OnErr result (NeedsRoom C.length_of self.old command.now) }
     {
         match command {
@@ -207,7 +219,7 @@ impl<C: Content> Machine<C> {
         }
     }
 
-    /// Makes one step with a command. It takes no memory.
+    /// Applies a command. Allocates nothing.
     pub fn apply(&mut self, command: Command<C>, room: Room) -> Reply
         requires room { HasRoom C.length_of self.old room command }
         ensures state { self.new.state ≡ (step C.length_of self.old.state command).0 }
@@ -227,7 +239,7 @@ impl<C: Content> Machine<C> {
         }
     }
 
-    /// The item in flight under a custody number, or why there is none. It takes no memory.
+    /// Returns the item in flight under a custody number, or the refusal. Allocates nothing.
     pub fn item(&self, hop: HopId, number: u64) -> Result<&Item<C>, Refusal>
         ensures ok { IfOk result (λ item. item_of self.now.state hop number ≡ Ok item.now) }
         ensures err { IfErr result (λ refusal. item_of self.now.state hop number ≡ Err refusal) }
@@ -244,7 +256,7 @@ impl<C: Content> Machine<C> {
         Ok(&hop.flight[(number - hop.released - 1) as usize])
     }
 
-    /// The custody numbers in flight, or that there is no such hop. It takes no memory.
+    /// Returns the custody numbers in flight, or that the hop doesn't exist. Allocates nothing.
     pub fn ask_window(&self, hop: HopId) -> Reply
         ensures { result ≡ window_reply self.now.state hop }
     {
@@ -260,7 +272,7 @@ impl<C: Content> Machine<C> {
         }
     }
 
-    /// All numbers of a hop, or that there is no such hop. It takes no memory.
+    /// Returns all counters of a hop, or that the hop doesn't exist. Allocates nothing.
     pub fn ask_show(&self, hop: HopId) -> Reply
         ensures { result ≡ show_reply self.now.state hop }
     {
@@ -270,15 +282,16 @@ impl<C: Content> Machine<C> {
         }
     }
 
-    /// A hop, if it is there.
+    /// Returns a hop, if it exists.
     fn hop(&self, hop: HopId) -> Option<&Hop<C>>
-        ensures { MatchOption result (has_hop self.now.state hop ≡ false) (λ found. IsHopAt C.length_of self.now.state hop found.now) }
+        ensures { MatchOption result (has_hop self.now.state hop ≡ false)
+            (λ found. IsHopAt C.length_of self.now.state hop found.now) }
     {
         let index = self.hop_index(hop)?;
         Some(&self.hops[index])
     }
 
-    /// The place of a hop, if it is there.
+    /// Returns the index of a hop, if it exists.
     fn hop_index(&self, hop: HopId) -> Option<usize>
         ensures { SomeIff result (IsTrue (has_hop self.now.state hop)) (hop.0 - 1) }
     {
@@ -286,7 +299,7 @@ impl<C: Content> Machine<C> {
         (index < self.hops.len()).then_some(index)
     }
 
-    /// The place of a peer, if it is there.
+    /// Returns the index of a peer, if it exists.
     fn peer_index(&self, peer: PeerId) -> Option<usize>
         ensures { SomeIff result (IsTrue (has_peer self.now.state peer)) (peer.0 - 1) }
     {
@@ -294,7 +307,7 @@ impl<C: Content> Machine<C> {
         (index < self.lasts.len()).then_some(index)
     }
 
-    /// Makes room for a Take at a hop.
+    /// Reserves room for a Take at a hop.
     fn reserve_take(&mut self, hop: HopId) -> Result<(), AllocError>
         requires { IsTrue (has_hop self.old.state hop) }
         ensures state { self.new.state ≡ self.old.state }
@@ -304,8 +317,8 @@ impl<C: Content> Machine<C> {
         self.hops[hop.0 as usize - 1].reserve_queue()
     }
 
-    /// Makes room in flight for a Pick that no check refuses, and answers how many datagrams will expire at it, and how many of
-    /// those after them it will drop.
+    /// Reserves room in flight for a Pick that passes all checks, and returns the number of datagrams that it will
+    /// expire, and the number that it will drop after those.
     fn reserve_pick(&mut self, hop: HopId, now: u64) -> Result<(usize, usize), AllocError>
         requires { pick_refusal self.old.state hop now ≡ None }
         ensures state { self.new.state ≡ self.old.state }
@@ -342,7 +355,7 @@ impl<C: Content> Machine<C> {
         self.accept_take(peer, number, hop, stamp, limit, payload)
     }
 
-    /// The first check of a Take that fails.
+    /// Returns the first failed check of a Take.
     fn take_refusal(
         &self,
         peer: PeerId,
@@ -387,7 +400,7 @@ impl<C: Content> Machine<C> {
         None
     }
 
-    /// Takes a datagram that no check refuses.
+    /// Takes a datagram after all checks passed.
     fn accept_take(
         &mut self,
         peer: PeerId,
@@ -398,7 +411,8 @@ impl<C: Content> Machine<C> {
         payload: C,
     ) -> Reply
         requires room { 0 < slice_index self.old.queue_spare (hop.0 - 1) }
-        requires accepted { take_refusal C.length_of self.old.state peer number hop stamp limit (C.length_of payload) ≡ None }
+        requires accepted { take_refusal C.length_of self.old.state peer number hop stamp limit (C.length_of payload)
+            ≡ None }
         ensures state { self.new.state ≡ (take_step C.length_of self.old.state peer number hop stamp limit payload).0 }
         ensures reply { result ≡ Reply.Taken (self.old.state.seq + 1) }
     {
@@ -411,7 +425,7 @@ impl<C: Content> Machine<C> {
         Reply::Taken(id)
     }
 
-    /// Releases what is in flight up to a number.
+    /// Releases the datagrams in flight up to a number.
     fn release(&mut self, hop: HopId, number: u64) -> Reply
         ensures state { self.new.state ≡ (release_step self.old.state hop number).0 }
         ensures reply { result ≡ (release_step self.old.state hop number).1 }
@@ -422,7 +436,7 @@ impl<C: Content> Machine<C> {
         self.accept_release(hop, number)
     }
 
-    /// The first check of a Release that fails.
+    /// Returns the first failed check of a Release.
     fn release_refusal(&self, hop: HopId, number: u64) -> Option<Reply>
         ensures { result ≡ release_refusal self.now.state hop number }
     {
@@ -441,7 +455,7 @@ impl<C: Content> Machine<C> {
         None
     }
 
-    /// Releases what no check refuses.
+    /// Releases after all checks passed.
     fn accept_release(&mut self, hop: HopId, number: u64) -> Reply
         requires { release_refusal self.old.state hop number ≡ None }
         ensures state { self.new.state ≡ (release_step self.old.state hop number).0 }
@@ -470,7 +484,7 @@ impl<C: Content> Machine<C> {
         self.accept_pick(hop, now, room)
     }
 
-    /// The first check of a Pick that fails.
+    /// Returns the first failed check of a Pick.
     fn pick_refusal(&self, hop: HopId, now: u64) -> Option<Reply>
         ensures { result ≡ pick_refusal self.now.state hop now }
     {
@@ -492,10 +506,11 @@ impl<C: Content> Machine<C> {
         None
     }
 
-    /// Picks what no check refuses.
+    /// Picks after all checks passed.
     fn accept_pick(&mut self, hop: HopId, now: u64, room: Room) -> Reply
         requires accepted { pick_refusal self.old.state hop now ≡ None }
-        requires room { (0 < slice_index self.old.flight_spare (hop.0 - 1)) × (expires_of self.old.state hop now ≤ room.expired)
+        requires room { (0 < slice_index self.old.flight_spare (hop.0 - 1))
+            × (expires_of self.old.state hop now ≤ room.expired)
             × (drops_of C.length_of self.old.state hop now ≤ room.dropped) }
         ensures state { self.new.state ≡ (pick_step C.length_of self.old.state hop now).0 }
         ensures reply { result ≡ (pick_step C.length_of self.old.state hop now).1 }

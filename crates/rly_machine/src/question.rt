@@ -9,7 +9,7 @@ use crate::reply::Reply;
 use std::alloc::{AllocError, Global};
 
 impl Machine<Payload> {
-    /// The reply to a question. Only the bytes of a payload take memory.
+    /// Returns the reply to a query. Allocates only for the bytes of a payload.
     pub fn answer(&self, alloc: Global, query: Query) -> Result<Reply, AllocError>
         ensures reply { IfOk result (λ reply. reply ≡ query_reply self.now.state query) }
         ensures memory { OnErr result (HasBytes (query_reply self.now.state query)) }
@@ -27,7 +27,7 @@ impl Machine<Payload> {
         }
     }
 
-    /// Makes one step with an ask, and gives the reply to it. Where memory is refused, the state is as it was.
+    /// Evaluates a request, and returns its reply. If the allocation fails, the state is unchanged.
     pub fn evaluate(&mut self, alloc: Global, ask: Ask) -> Result<Reply, AllocError>
         ensures state { OnOk result (self.new.state ≡ (ask_step self.old.state ask).0) }
         ensures reply { IfOk result (λ reply. reply ≡ (ask_step self.old.state ask).1) }

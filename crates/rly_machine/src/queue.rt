@@ -1,4 +1,5 @@
-ghost use Rattle.std.specs.Prelude.{◌≡◌, ◌+◌, ◌%◌, ◌^◌, ◌<◌, ◌≤◌, ◌==◌, [], ◌∷◌, ◌++◌, ◌↔◌, IfOk, IfSome, IsSome, OnErr, OnOk, Some, drop, length, max, option_to_list, slice_index_or};
+ghost use Rattle.std.specs.Prelude.{◌≡◌, ◌+◌, ◌%◌, ◌^◌, ◌<◌, ◌≤◌, ◌==◌, [], ◌∷◌, ◌++◌, ◌↔◌, IfOk, IfSome, IsSome};
+ghost use Rattle.std.specs.Prelude.{OnErr, OnOk, Some, drop, length, max, option_to_list, slice_index_or};
 ghost use Rattle.rly_machine.specs.Relocate.{carried_at, with_payload};
 ghost use Rattle.rly_machine.specs.State.{bytes_of};
 
@@ -9,8 +10,8 @@ use std::alloc::{AllocError, Global};
 use std::collections::VecDeque;
 use std::marker::Model;
 
-/// The datagrams that wait for a hop, in order of taking. Contracts see them, and how many more it holds without memory. How
-/// many payload bytes wait after one of them is told without a look at those.
+/// The waiting datagrams of a hop, in order of arrival. In contracts it is these and its spare capacity. It returns the
+/// number of payload bytes after any datagram without a scan.
 #[derive(Drop)]
 pub struct Queue<C: Content> {
     queued: VecDeque<Queued<C>>,
@@ -18,11 +19,11 @@ pub struct Queue<C: Content> {
     total: u64,
 }
 
-/// A datagram that waits.
+/// A waiting datagram.
 #[derive(Drop)]
 struct Queued<C> {
     item: Item<C>,
-    /// The payload bytes put into the queue up to and with this item, modulo 2^64.
+    /// The payload bytes ever put into the queue up to and including this item, modulo 2^64.
     total: u64,
 }
 
@@ -34,13 +35,14 @@ impl<C: Content> Model for Queue<C> {
 
     ghost Value = { QueueState C };
 
-    ghost view = { λ queue. record { items = items_of queue.queued.items; spare = deque_capacity queue.queued - deque_len queue.queued } };
+    ghost view = { λ queue.
+        record { items = items_of queue.queued.items; spare = deque_capacity queue.queued - deque_len queue.queued } };
 
     ghost invariant = { λ queue. AddUp C.length_of queue.total queue.queued.items };
 }
 
 impl<C: Content> Queue<C> {
-    /// An empty one. It takes no memory.
+    /// Makes an empty queue. Allocates nothing.
     pub fn new(alloc: Global) -> Queue<C>
         ensures { result.items ≡ [] }
     {
@@ -50,7 +52,8 @@ impl<C: Content> Queue<C> {
         }
     }
 
-    /// The queue of items that were kept elsewhere, the front first. It takes memory for them and for no more; none takes none.
+    /// Makes a queue of items that were loaded from elsewhere, the front first. Allocates exactly their memory, and
+    /// nothing for no items.
     pub fn of(alloc: Global, items: Vec<Item<C>>) -> Result<Queue<C>, AllocError>
         ensures items { IfOk result (λ queue. queue.items ≡ items.items) }
         ensures exact { IfOk result (λ queue. queue.spare ≡ 0) }
@@ -67,7 +70,7 @@ impl<C: Content> Queue<C> {
         Ok(queue)
     }
 
-    /// How many wait.
+    /// Returns the number of waiting datagrams.
     pub fn len(&self) -> usize
         ensures count { result ≡ length self.now.items }
         ensures fits { result < 2 ^ 63 }
@@ -75,14 +78,14 @@ impl<C: Content> Queue<C> {
         self.queued.len()
     }
 
-    /// Whether none waits.
+    /// Returns true iff none waits.
     pub fn is_empty(&self) -> bool
         ensures { result ≡ (length self.now.items == 0) }
     {
         self.queued.is_empty()
     }
 
-    /// A datagram, counted from 0 at the front.
+    /// Returns a datagram; index 0 is the front.
     pub fn item(&self, index: usize) -> &Item<C>
         requires { index < length self.now.items }
         ensures { result.now ≡ slice_index_or self.now.items index result.now }
@@ -90,7 +93,7 @@ impl<C: Content> Queue<C> {
         &self.queued[index].item
     }
 
-    /// How many payload bytes wait after a datagram, its own not among them, modulo 2^64.
+    /// Returns the number of payload bytes after a datagram, without its own, modulo 2^64.
     pub(crate) fn bytes_behind(&self, index: usize) -> u64
         requires { index < length self.now.items }
         ensures { result ≡ bytes_of C.length_of (drop (index + 1) self.now.items) % 2 ^ 64 }
@@ -98,7 +101,7 @@ impl<C: Content> Queue<C> {
         self.total.wrapping_sub(self.queued[index].total)
     }
 
-    /// How many payload bytes wait.
+    /// Returns the number of waiting payload bytes.
     pub(crate) fn bytes(&self) -> u64
         requires { bytes_of C.length_of self.now.items < 2 ^ 64 }
         ensures { result ≡ bytes_of C.length_of self.now.items }
@@ -109,7 +112,7 @@ impl<C: Content> Queue<C> {
         self.item(0).payload.len() as u64 + self.bytes_behind(0)
     }
 
-    /// Has the datagram at an index carry other content of the same length.
+    /// Replaces the content of the datagram at an index by other content of the same length.
     pub(crate) fn relocate(&mut self, index: usize, content: C)
         requires { carried_at C.length_of self.old.items index ≡ Some (C.length_of content) }
         ensures { self.new.items ≡ with_payload self.old.items index content }
@@ -117,7 +120,7 @@ impl<C: Content> Queue<C> {
         self.queued[index].item.payload = content;
     }
 
-    /// Makes room for one more. Where memory is refused, the queue is as it was.
+    /// Reserves room for one more. If the allocation fails, the queue is unchanged.
     pub(crate) fn reserve_one(&mut self) -> Result<(), AllocError>
         ensures items { self.new.items ≡ self.old.items }
         ensures room { OnOk result (0 < self.new.spare) }
@@ -138,7 +141,7 @@ impl<C: Content> Queue<C> {
         self.queued.push_back_reserved(Queued { item, total });
     }
 
-    /// Takes the front one out.
+    /// Removes the front.
     pub(crate) fn pop_front(&mut self) -> Option<Item<C>>
         ensures items { self.old.items ≡ option_to_list result ++ self.new.items }
         ensures variant { IsSome result ↔ (0 < length self.old.items) }

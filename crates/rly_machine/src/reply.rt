@@ -5,10 +5,10 @@ use rly_codel::CodelState;
 use rly_core::Refusal;
 use std::marker::Model;
 
-/// The answer to a command or a query.
+/// The reply to a command or a query.
 #[derive(Drop)]
 pub enum Reply {
-    /// The datagram was taken, under this id.
+    /// The datagram was taken under this id.
     Taken(u64),
     /// The datagram was taken before; carries the last number taken from that peer.
     Already(u64),
@@ -18,37 +18,37 @@ pub enum Reply {
         number: u64,
         /// Its id.
         id: u64,
-        /// The ids of the datagrams that were past their limit, in order.
+        /// The ids of the expired datagrams, in order.
         expired: Ids,
-        /// The ids of the datagrams that CoDel dropped of those after them, in order.
+        /// The ids of the datagrams that CoDel dropped after those, in order.
         dropped: Ids,
     },
-    /// Nothing waits, or nothing is left once those past their limit are gone.
+    /// No datagram waits, or all that waited expired.
     Nothing {
-        /// The ids of the datagrams that were past their limit, in order.
+        /// The ids of the expired datagrams, in order.
         expired: Ids,
     },
-    /// So many datagrams were released.
+    /// This many datagrams were released.
     Released(u64),
-    /// Nothing in flight has a number that low.
+    /// All datagrams in flight have higher numbers.
     Unchanged,
-    /// The payload in flight under the number that was asked for, and its limit.
+    /// The payload in flight under the requested number, and its limit.
     Bytes {
         /// The payload.
         payload: Payload,
-        /// How long it could wait in the queue, 0 for no limit.
+        /// The longest time that it could wait in the queue, 0 for no limit.
         limit: u64,
     },
     /// The custody numbers in flight.
     WindowIs {
-        /// The least of them, or `next` where there is none.
+        /// The least of them, or `next` if none is in flight.
         first: u64,
-        /// The number that the next datagram in flight gets.
+        /// The number of the next datagram that goes into flight.
         next: u64,
     },
-    /// All numbers of a hop.
+    /// All counters of a hop.
     Shown(HopStatus),
-    /// Nothing was done.
+    /// The request was refused; nothing was done.
     Refused(Refusal),
 }
 
@@ -56,7 +56,7 @@ impl Reply {
     ghost use Rattle.std.specs.Prelude.{◌≡◌};
     ghost use Rattle.rly_machine.specs.Accepted.{is_accepted};
 
-    /// Whether it answers a command that was accepted.
+    /// Returns true iff it replies to an accepted command.
     pub fn is_accepted(&self) -> bool
         ensures { result ≡ is_accepted self.now }
     {
@@ -67,24 +67,24 @@ impl Reply {
     }
 }
 
-/// All numbers of a hop.
+/// All counters of a hop.
 #[derive(Clone, Copy, PartialEq, Eq)]
 pub struct HopStatus {
-    /// Datagrams ever taken.
+    /// Number of datagrams ever taken.
     pub taken: u64,
-    /// Datagrams that wait in the queue.
+    /// Number of datagrams that wait in the queue.
     pub queued: u64,
-    /// Datagrams in flight.
+    /// Number of datagrams in flight.
     pub flight: u64,
-    /// Datagrams dropped by CoDel.
+    /// Number of datagrams that CoDel dropped.
     pub dropped: u64,
-    /// Datagrams that were past their limit when a Pick came.
+    /// Number of datagrams that had expired when a Pick came.
     pub expired: u64,
-    /// Datagrams that the next hop took custody of.
+    /// Number of datagrams that the next hop took custody of.
     pub released: u64,
     /// CoDel's state.
     pub codel: CodelState,
-    /// The last link moment, in microseconds.
+    /// The last time of the link clock, in microseconds.
     pub moment: u64,
 }
 
@@ -101,14 +101,14 @@ impl Model for Ids {
 }
 
 impl Ids {
-    /// These ids.
+    /// Makes a list of these ids.
     pub fn new(ids: Vec<u64>) -> Ids
         ensures { result ≡ ids.items }
     {
         Ids { ids }
     }
 
-    /// The ids.
+    /// Returns the ids.
     pub fn as_slice(&self) -> &[u64]
         ensures { result.now ≡ self.now }
     {

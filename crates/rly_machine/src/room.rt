@@ -3,8 +3,8 @@ ghost use Rattle.std.specs.Prelude.{◌≡◌, ◌+◌, ◌<◌, [], IfOk, OnErr
 use std::alloc::{AllocError, Global};
 use std::marker::Model;
 
-/// The memory for one command, made by `Machine::reserve_for`. Contracts see how many expired and how many dropped ids it has
-/// room for.
+/// The memory for one command, allocated by `Machine::reserve_for`. In contracts it is its capacity for expired and for
+/// dropped ids.
 #[derive(Drop)]
 pub struct Room {
     expired: Vec<u64>,
@@ -23,7 +23,7 @@ impl Model for Room {
 }
 
 impl Room {
-    /// Room for so many ids of each kind, and for no more. A list for none takes no memory.
+    /// Reserves room for exactly this many ids of each kind. Allocates nothing for 0.
     pub(crate) fn new(alloc: Global, expired: usize, dropped: usize) -> Result<Room, AllocError>
         ensures room { IfOk result (λ room. (room.expired ≡ expired) × (room.dropped ≡ dropped)) }
         ensures memory { OnErr result (0 < expired + dropped) }
@@ -34,7 +34,7 @@ impl Room {
         })
     }
 
-    /// Room for none, which takes no memory.
+    /// Makes a room for no ids. Allocates nothing.
     pub(crate) fn none(alloc: Global) -> Room
         ensures { (result.expired ≡ 0) × (result.dropped ≡ 0) }
     {
@@ -44,14 +44,14 @@ impl Room {
         }
     }
 
-    /// How many ids it has room for.
+    /// Returns the number of ids that it has room for.
     pub fn count(&self) -> usize
         ensures { result ≡ self.now.expired + self.now.dropped }
     {
         self.expired.capacity() + self.dropped.capacity()
     }
 
-    /// The empty lists with that room, that of the expired first.
+    /// Returns the empty lists, the one for expired ids first.
     pub(crate) fn into_lists(self) -> (Vec<u64>, Vec<u64>)
         ensures empty { (result.0.items ≡ []) × (result.1.items ≡ []) }
         ensures room { (vec_capacity result.0 ≡ self.expired) × (vec_capacity result.1 ≡ self.dropped) }

@@ -5,7 +5,7 @@ use rly_core::Params;
 use rly_law::StepTable;
 use std::marker::Model;
 
-/// A spool's parameters, with a table of the steps of their interval. Contracts see the parameters.
+/// A spool's parameters, with a step table at their interval. In contracts it is the parameters.
 #[derive(Drop)]
 pub(crate) struct Rules {
     params: Params,
@@ -24,7 +24,7 @@ impl Model for Rules {
 }
 
 impl Rules {
-    /// Makes the table. It takes no memory.
+    /// Makes the table. Allocates nothing.
     pub(crate) fn new(params: Params) -> Rules
         requires { IsWithinLimits params }
         ensures { result ≡ params }
@@ -33,14 +33,14 @@ impl Rules {
         Rules { params, steps }
     }
 
-    /// The parameters.
+    /// Returns the parameters.
     pub(crate) fn params(&self) -> Params
         ensures { result ≡ self.now }
     {
         self.params
     }
 
-    /// CoDel's control law at their interval.
+    /// Returns CoDel's control law at their interval.
     pub(crate) fn steps(&self) -> &StepTable
         ensures { result.now ≡ self.now.interval }
     {

@@ -1,11 +1,11 @@
--- A text that has only white space and comments is a document without a key, so that nothing is made of it.
+-- A text of only white space and comments is a document without a key, and yields no plan.
 use Rattle.std.proofs.Common.{◌≡◌, ◌≢◌, ℕ, suc, List, [], codes, length, Some, None, option_and_then, ◌∙◌, sym, ap, arith}
 use Rattle.toml.specs.Data.{Members, no_members}
 use Rattle.toml.specs.Errors.{IsBlank}
 use Rattle.toml.specs.Parse.{parse_document, skip_bom}
 use Rattle.toml.specs.Tables.{no_nodes}
 use Rattle.toml.proofs.Turns.{document_some, lines_end}
-use Rattle.rly_plan_draft.specs.Draft.{PlanText, draft_of, integer_at}
+use Rattle.rly_plan_syntax.specs.Draft.{PlanText, draft_of, integer_at}
 
 blank_document : (text : List ℕ) → IsBlank text → parse_document text ≡ Some no_members
 blank_document text blank = document_some text (no_nodes, []) (lines_end (suc (length text)) (no_nodes, []) (skip_bom text) (omega arith) blank)

@@ -12,7 +12,7 @@ use Rattle.rly_plan.specs.LinkClock.{lies_in, lies_in_any}
 use Rattle.rly_core.specs.declared.ids.HopId.{HopId}
 use Rattle.rly_plan.specs.ContactPlan.{ContactPlan, at_number, is_open, next_change}
 use Rattle.rly_plan.specs.Sound.{AreInOrder, IsSoundPlan, IsStationNumber}
-use Rattle.rly_plan.specs.declared.plan.Hop.{Hop}
+use Rattle.rly_plan.specs.declared.plan.NextHop.{NextHop}
 
 -- contacts that last, each of which begins when those before it have ended, and none before the front
 abbrev pub Follow : ℕ → List Contact → Type 0
@@ -76,7 +76,7 @@ closing end (c ∷ cs) kept =
           })
     ]
 
--- a change is one of any other link that is open at the same moments from there on
+-- a change is also one of any other link that is open at the same moments from then on
 same_change : (f g : ℕ → Bool) (m : ℕ) (o : Option ℕ) → ((u : ℕ) → m ≤ u → f u ≡ g u) → IsNextChange g m o → IsNextChange f m o
 same_change f g m None same is = λ u from. same u from ∙ is u from ∙ sym (same m (omega arith))
 same_change f g m (Some t) same is = (
@@ -136,12 +136,12 @@ change_bounded front sum (e ∷ es) m kept =
 
 -- ---- of a plan
 
-at_either : (plan : ContactPlan) (o : Option Hop) (m : ℕ) → IfSome o (λ h. AreInOrder h.contacts)
+at_either : (plan : ContactPlan) (o : Option NextHop) (m : ℕ) → IfSome o (λ h. AreInOrder h.contacts)
     → IsNextChange (lies_in_any (unwrap_or (option_map (λ h. h.contacts) o) [])) m (change_after (unwrap_or (option_map (λ h. h.contacts) o) []) m)
 at_either plan None m kept = λ u from. refl
 at_either plan (Some h) m kept = change_is 0 h.contacts m (follow_of 0 h.contacts kept.lasting kept.apart (λ i d within. omega arith))
 
-nth_is : (hops : List Hop) (n : ℕ) → All (λ h. IsStationNumber h.neighbour.station × AreInOrder h.contacts) hops → IfSome (at_number hops n) (λ h. AreInOrder h.contacts)
+nth_is : (hops : List NextHop) (n : ℕ) → All (λ h. IsStationNumber h.neighbour.station × AreInOrder h.contacts) hops → IfSome (at_number hops n) (λ h. AreInOrder h.contacts)
 nth_is hops zero sound = tt
 nth_is [] (suc n) sound = tt
 nth_is (h ∷ hops) (suc zero) sound = (sound 0 h (omega arith)).1

@@ -4,4 +4,4 @@ pub mod ChangeLaws
 pub mod PassLemmas
 pub mod BlankTexts
 pub mod SoundPlans
-pub mod PlaceTests
+pub mod PathTests

@@ -30,7 +30,7 @@ latest_early e es t early = rw (lt-ltb t e.contact.begin early)
 pub latest_late : (e : Summed) (es : List Summed) (t : ℕ) → e.contact.begin ≤ t → latest (e ∷ es) t ≡ or_later e (latest es t)
 latest_late e es t begun = rw (le-ltb t e.contact.begin begun)
 
--- where one has begun, the contacts before them have ended
+-- if one has begun, the contacts before it have ended
 begun_since : (front sum : ℕ) (es : List Summed) (t : ℕ) → AreSummed front sum es → IfSome (latest es t) (λ _. front ≤ t)
 begun_since front sum [] t kept = tt
 begun_since front sum (e ∷ es) t kept =
@@ -43,7 +43,7 @@ begun_since front sum (e ∷ es) t kept =
     at_either e None h = h
     at_either e (Some x) h = h
 
--- what an entry that was found says of the moment
+-- whether the link is open, given the entry that was found
 abbrev pub is_open_in : Option Summed → ℕ → Bool
 is_open_in None t = false
 is_open_in (Some e) t = nat_lt t e.contact.end
@@ -85,7 +85,7 @@ one_more c n before rest count b counted is closed =
       ]
     ]
 
--- the first contact's part of the link clock, where the others begin when it has ended
+-- the first contact's part of the link clock, if the others begin after it has ended
 pub link_front : (c : Contact) (cs : List Contact) (t : ℕ) → ((u : ℕ) → u < c.end → lies_in_any cs u ≡ false) → open_moments (c ∷ cs) t ≡ (min t c.end - c.begin) + open_moments cs t
 unfolding count_below
 link_front c cs zero closed = omega arith
@@ -110,7 +110,7 @@ found_either : (e : Summed) (o : Option Summed) (t : ℕ) → HasBegun t e → I
 found_either e None t here later = here
 found_either e (Some x) t here later = later
 
--- what the entry that is found keeps
+-- the invariant of the entry that was found
 pub found_has_begun : (front sum : ℕ) (es : List Summed) (t : ℕ) → AreSummed front sum es → sum ≤ front → IfSome (latest es t) (HasBegun t)
 found_has_begun front sum [] t kept below = tt
 found_has_begun front sum (e ∷ es) t kept below =
@@ -138,7 +138,7 @@ begins_ascend front sum (e ∷ es) kept (suc i) (suc j) d order within = begins_
 abbrev pub has_begun : ℕ → Summed → Bool
 has_begun t e = nat_le e.contact.begin t
 
--- where the first has not begun, none is found
+-- if the first has not begun, none is found
 pub latest_none : (es : List Summed) (t : ℕ) → AllWithin (λ e. has_begun t e ≡ false) es 0 (length es) → latest es t ≡ None
 latest_none [] t early = refl
 latest_none (e ∷ es) t early = latest_early e es t (leb-false e.contact.begin t (early 0 e (omega arith) (omega arith)))
@@ -178,14 +178,14 @@ pub sum_push : (sum : ℕ) (es : List Summed) (n : Summed) → sum_after sum (es
 sum_push sum [] n = refl
 sum_push sum (e ∷ es) n = sum_push (sum + (e.contact.end - e.contact.begin)) es n
 
--- what the search found, by how many have begun
+-- the entry that was found, by how many have begun
 pub latest_where : (es : List Summed) (t k : ℕ) (d : Summed) → k ≤ length es → 0 < k → IsPartitionPoint (λ e. has_begun t e ≡ true) (λ e. has_begun t e ≡ false) es k → Some (get_or es (k - 1) d) ≡ latest es t
 latest_where es t zero d within some parts = absurd (omega arith)
 latest_where es t (suc k) d within some parts =
     let less : suc k - 1 ≡ k = omega arith in
     rw less (sym (latest_at es t k d (omega arith) parts.0 parts.1))
 
--- the answers, from the entry that was found
+-- the results, from the entry that was found
 pub open_found : (es seen : List Summed) (cs : List Contact) (t : ℕ) (o : Option Summed) → AreSummed 0 0 es → contacts_in es ≡ cs → seen ≡ es → o ≡ latest seen t → is_open_in o t ≡ lies_in_any cs t
 open_found es seen cs t o kept same read found = rw (found, read, ← same) (sym (open_at_latest 0 0 es t kept))
 
@@ -202,7 +202,7 @@ kept_push es total cs n kept same behind lasts bounded =
       total_is = rw (sum_push 0 es (record { contact = n; before = total })) (ap (λ s. s + (n.end - n.begin)) kept.total_is);
     }
 
--- the open time in all contacts is at most when the last ends
+-- the open time in all contacts is at most the end of the last
 pub total_below : (es : List Summed) (total : ℕ) (cs : List Contact) → AreTotalled es total → contacts_in es ≡ cs → total ≤ last_end cs
 total_below es total cs kept same = omega (arith, sum_below_end 0 0 es kept.summed (omega arith), kept.total_is, end_is es, ap last_end same)
 

@@ -1,22 +1,22 @@
--- The passes over the numbers of a plan, and what they leave for the plan to be made of.
+-- The passes over the numbers of a plan, and the properties that they leave.
 use Rattle.std.proofs.Common.{◌≡◌, ℕ, zero, suc, ◌+◌, ◌-◌, ◌<◌, ◌≤◌, ◌==◌, nat_le, ℤ, pos, negsuc, Bool, true, false, ◌&&◌, ◌||◌, List, [], ◌∷◌, map, length, drop, take, get_or, set, Option, Some, None, Result, Ok, Err, option_map, cond, not, if◌then◌else◌, inl, inr, get_or-set_same, get_or-set_other, refl, ◌∙◌, sym, ap, arith, leb-true, eq-eqb}
 use Rattle.std.specs.List.{list_all, list_any}
 use Rattle.std.specs.Option.{option_or}
 use Rattle.std.proofs.lemmas.Bool.{and_parts, cases_eq, ne_eqb, false≢true}
 use Rattle.std.proofs.lemmas.List.{drop_all, drop_more}
 use Rattle.rly_core.specs.declared.limits.TheConstants.{MAX_CONTACTS, MAX_HOPS, MAX_PEERS, MOMENT_LIMIT}
-use Rattle.rly_plan_draft.specs.declared.draft.ContactDraft.{ContactDraft}
-use Rattle.rly_plan_draft.specs.declared.place.Place.{Place}
-use Rattle.rly_plan_draft.specs.declared.place.Place.TheVariants.{In}
-use Rattle.rly_plan_draft.specs.declared.place.Row.{Row}
-use Rattle.rly_plan_draft.specs.declared.place.Spot.{Spot}
-use Rattle.rly_plan_draft.specs.declared.place.Spot.TheVariants.{Contact}
+use Rattle.rly_plan_syntax.specs.declared.draft.ContactDraft.{ContactDraft}
+use Rattle.rly_plan_syntax.specs.declared.key_path.KeyPath.{KeyPath}
+use Rattle.rly_plan_syntax.specs.declared.key_path.KeyPath.TheVariants.{In}
+use Rattle.rly_plan_syntax.specs.declared.key_path.Row.{Row}
+use Rattle.rly_plan_syntax.specs.declared.key_path.Spot.{Spot}
+use Rattle.rly_plan_syntax.specs.declared.key_path.Spot.TheVariants.{Contact}
 use Rattle.rly_core.specs.declared.refusal.Refusal.TheVariants.{Range}
 use Rattle.rly_plan.specs.ContactPlan.{ContactPlan}
 use Rattle.rly_plan.specs.HelpersContacts.{last_end}
-use Rattle.rly_plan_draft.specs.Draft.{HopText, PlanText}
-use Rattle.rly_plan_draft.specs.DocumentPlaces.{unless}
-use Rattle.rly_plan.specs.Places.{first_adjacent, first_repeat, first_row}
+use Rattle.rly_plan_syntax.specs.Draft.{HopText, PlanText}
+use Rattle.rly_plan_syntax.specs.DocumentPaths.{unless}
+use Rattle.rly_plan.specs.KeyPaths.{first_adjacent, first_repeat, first_row}
 use Rattle.rly_plan.specs.Passes.{all_numbered, hop_in_range, is_in_range, is_station, neighbour_in_range, plan_of_draft, rate_in_range, resend_in_range, route_in_range, rows_in_range, is_between, number, contact_in_range, all_adjacent, are_apart, repeats, contact_from}
 
 abbrev pub none_of : (A : Type 0) → List A
@@ -26,7 +26,7 @@ drop_of_none : {A : Type 0} (k : ℕ) → drop k (none_of A) ≡ []
 drop_of_none zero = refl
 drop_of_none (suc k) = refl
 
--- the last has no neighbour after it whose place would be told
+-- the last has no contact after it that could be at fault
 none_adjacent : (test : ContactDraft → ContactDraft → Bool) (n : ℕ) (xs : List ContactDraft) (k : ℕ) → length xs ≤ k + 1 → first_adjacent test n (drop k xs) ≡ None
 none_adjacent test n [] k past = rw (drop_of_none {A = ContactDraft} k)
 none_adjacent test n (x ∷ []) zero past = refl
@@ -45,25 +45,25 @@ from_row fault row xs i x found within is tells =
     ∙ ap (λ y. first_row fault row (i + 1) (y ∷ drop (i + 1) xs)) (sym is)
     ∙ ap (λ o. option_or (option_map (In row (i + 1)) o) (first_row fault row (i + 1 + 1) (drop (i + 1) xs))) (sym tells)
 
--- a row that tells of no fault leaves the answer to those after it
-pub row_passed : {A : Type 0} (fault : ℕ → A → Option Spot) (row : Row) (xs : List A) (i : ℕ) (x : A) (found : Option Spot) (all : Option Place)
+-- a row without a fault leaves the result to those after it
+pub row_passed : {A : Type 0} (fault : ℕ → A → Option Spot) (row : Row) (xs : List A) (i : ℕ) (x : A) (found : Option Spot) (all : Option KeyPath)
     → i < length xs → x ≡ get_or xs i x → found ≡ fault (i + 1) x → found ≡ None
     → first_row fault row (i + 1) (drop i xs) ≡ all → first_row fault row (i + 1 + 1) (drop (i + 1) xs) ≡ all
 row_passed fault row xs i x found all within is tells none before =
     sym (from_row fault row xs i x found within is tells ∙ ap (λ o. option_or (option_map (In row (i + 1)) o) (first_row fault row (i + 1 + 1) (drop (i + 1) xs))) none) ∙ before
 
--- and one that tells of a fault is the answer
-pub row_found : {A : Type 0} (fault : ℕ → A → Option Spot) (row : Row) (xs : List A) (i : ℕ) (x : A) (found : Option Spot) (spot : Spot) (all : Option Place)
+-- and one with a fault is the result
+pub row_found : {A : Type 0} (fault : ℕ → A → Option Spot) (row : Row) (xs : List A) (i : ℕ) (x : A) (found : Option Spot) (spot : Spot) (all : Option KeyPath)
     → i < length xs → x ≡ get_or xs i x → found ≡ fault (i + 1) x → found ≡ Some spot
     → first_row fault row (i + 1) (drop i xs) ≡ all → Some (In row (i + 1) spot) ≡ all
 row_found fault row xs i x found spot all within is tells some before =
     sym (from_row fault row xs i x found within is tells ∙ ap (λ o. option_or (option_map (In row (i + 1)) o) (first_row fault row (i + 1 + 1) (drop (i + 1) xs))) some) ∙ before
 
-pub rows_passed : {A : Type 0} (fault : ℕ → A → Option Spot) (row : Row) (xs : List A) (i : ℕ) (all : Option Place) → length xs ≤ i
+pub rows_passed : {A : Type 0} (fault : ℕ → A → Option Spot) (row : Row) (xs : List A) (i : ℕ) (all : Option KeyPath) → length xs ≤ i
     → first_row fault row (i + 1) (drop i xs) ≡ all → None ≡ all
 rows_passed fault row xs i all past before = sym (ap (first_row fault row (i + 1)) (drop_all i xs past)) ∙ before
 
--- two more neighbours
+-- two more adjacent elements
 from_adjacent : (test : ContactDraft → ContactDraft → Bool) (n : ℕ) (xs : List ContactDraft) (i : ℕ) (d e : ContactDraft) → 0 < i → i < length xs
     → first_adjacent test n (drop (i - 1) xs) ≡ option_or (unless (test (get_or xs (i - 1) d) (get_or xs i e)) (Contact (n + 1))) (first_adjacent test (n + 1) (drop i xs))
 from_adjacent test n xs zero d e some within = absurd (omega arith)
@@ -79,7 +79,7 @@ adjacent_passed test xs i d e all some within pass same =
     let less : i + 1 - 1 ≡ i = omega arith in
     rw (less, ← same, from_adjacent test i xs i d e some within, pass)
 
--- a row of another number leaves the answer to those after it
+-- a row of another number leaves the result to those after it
 pub other_row : {A : Type 0} (f : A → ℕ) (n : ℕ) (xs : List A) (i : ℕ) (x : A) (found : ℕ) (all : Bool) → i < length xs → x ≡ get_or xs i x → found ≡ f x → (found ≡ n → ⊥)
     → list_any (λ m. m == n) (map f (drop i xs)) ≡ all → list_any (λ m. m == n) (map f (drop (i + 1) xs)) ≡ all
 other_row f n xs i x found all within is tells other before =
@@ -89,7 +89,7 @@ other_row f n xs i x found all within is tells other before =
     ∙ ap (λ m. (m == n) || rest) (sym tells) ∙ ap (λ b. b || rest) (ne_eqb found n other))
     ∙ before
 
--- what lies between two numbers
+-- a number within bounds
 pub between_bounds : (least most : ℕ) (z : ℤ) → is_between least most z ≡ true → (least ≤ number z) × (number z ≤ most)
 between_bounds least most (pos n) h =
     let (low, high) = and_parts (nat_le least n) (nat_le n most) h in
@@ -146,12 +146,12 @@ marked_any : (seen : List Bool) (x : ℕ) (ys : List ℕ) → x < length seen
 marked_any seen x [] within = refl
 marked_any seen x (y ∷ ys) within = rw (mark_one seen x y within, marked_any seen x ys within) (or_swap (is_marked seen y) (y == x) (list_any (is_marked seen) ys) (list_any (λ z. z == x) ys))
 
--- what repeats after a number that was not marked
+-- repeats after a number that was not marked
 pub marked_more : (seen : List Bool) (x : ℕ) (ys : List ℕ) → x < length seen
     → (list_any (is_marked (set seen x true)) ys || repeats ys) ≡ (list_any (is_marked seen) ys || (list_any (λ y. y == x) ys || repeats ys))
 marked_more seen x ys within = rw (marked_any seen x ys within) (or_assoc (list_any (is_marked seen) ys) (list_any (λ y. y == x) ys) (repeats ys))
 
--- ---- what is there twice
+-- ---- numbers that occur twice
 
 any_unset : (seen : List Bool) (xs : List ℕ) → ((n : ℕ) → is_marked seen n ≡ false) → list_any (is_marked seen) xs ≡ false
 any_unset seen [] unset = refl
@@ -171,7 +171,7 @@ repeats_step seen xs i b within inside read unset same =
     let before = rw (drop_more xs i 0 within, off) at same in
     marked_more seen x (drop (i + 1) xs) inside ∙ before
 
--- the front of what is left, whose number is there again later, or isn't
+-- the front of the remaining rows: its number occurs again later, or doesn't
 repeat_front : {A : Type 0} (f : A → ℕ) (n : ℕ) (rest later : List A) (x : A) (b : Bool) → rest ≡ x ∷ later → list_any (λ y. y == f x) (map f later) ≡ b
     → first_repeat n (map f rest) ≡ cond b (Some n) (first_repeat (n + 1) (map f later))
 repeat_front f n rest later x b split seen = rw (split, seen) refl
@@ -211,7 +211,7 @@ contacts_in_range d ranged =
     let rows = and_parts (nat_le 1 (length d.hops) && nat_le (length d.hops) MAX_HOPS) (all_numbered hop_in_range 1 d.hops) hops.0 in
     numbered_contacts 1 d.hops rows.1
 
--- what is a plan is in range
+-- every plan is in range
 unless_met : {A E : Type 0} (a : Bool) (fault : E) (rest : Result A E) (found : A) → (if not a then Err fault else rest) ≡ Ok found → a ≡ true
 unless_met true fault rest found is = refl
 unless_met false fault rest found is = absurd cc

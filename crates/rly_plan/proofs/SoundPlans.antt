@@ -9,19 +9,19 @@ use Rattle.rly_core.specs.Bounds.{IsIn}
 use Rattle.rly_core.specs.declared.limits.TheConstants.{MAX_CONTACTS, MAX_HOPS, MAX_PEERS, MAX_RESEND, MIN_RESEND, MOMENT_LIMIT}
 use Rattle.rly_core.specs.declared.refusal.Refusal.TheVariants.{Unsorted, Overlap, Range, Unknown}
 use Rattle.rly_plan.specs.declared.contacts.Contact.{Contact}
-use Rattle.rly_plan_draft.specs.declared.draft.ContactDraft.{ContactDraft}
-use Rattle.rly_plan_draft.specs.declared.draft.NeighbourDraft.{NeighbourDraft}
-use Rattle.rly_plan_draft.specs.declared.draft.RouteDraft.{RouteDraft}
+use Rattle.rly_plan_syntax.specs.declared.draft.ContactDraft.{ContactDraft}
+use Rattle.rly_plan_syntax.specs.declared.draft.NeighbourDraft.{NeighbourDraft}
+use Rattle.rly_plan_syntax.specs.declared.draft.RouteDraft.{RouteDraft}
 use Rattle.rly_plan.specs.ContactPlan.{ContactPlan}
-use Rattle.rly_plan_draft.specs.Draft.{HopText, PlanText, draft_of}
-use Rattle.rly_plan_draft.specs.Keys.{keys_are_known}
+use Rattle.rly_plan_syntax.specs.Draft.{HopText, PlanText, draft_of}
+use Rattle.rly_plan_syntax.specs.Keys.{keys_are_known}
 use Rattle.rly_plan.specs.Passes.{all_adjacent, all_numbered, are_apart, contact_from, contact_in_range, hop_from, hop_in_range, is_between, is_in_range, is_sorted, is_station, leads_to_hops, neighbour_from, neighbour_in_range, number, number_16, number_32, overlaps, plan_from, plan_of_text, plan_of_document, plan_of_draft, rate_in_range, repeats, resend_in_range, route_from, route_in_range, rows_in_range}
 use Rattle.rly_plan.specs.Sound.{IsStationNumber, AreInOrder, IsSoundPlan}
 use Rattle.rly_plan.proofs.PassLemmas.{between_bounds, contact_bounds}
 
--- ---- what passed
+-- ---- a draft that passed
 
--- the draft after a plan, and that it passed
+-- the draft of a plan, which passed
 record Passed (d : PlanText) (plan : ContactPlan) : Type 0 where
   ranged : is_in_range d ≡ true
   apart : overlaps d ≡ false
@@ -84,7 +84,7 @@ distinct_map key f seen same (x ∷ xs) h (suc i) (suc j) d order within =
 
 -- ---- numbers
 
--- a number that so many bits hold
+-- a number that fits its bits
 held : (limit low high : ℕ) (z : ℤ) → high ≤ limit → is_between low high z ≡ true → cond (is_between 0 limit z) (number z) 0 ≡ number z
 held limit low high (pos n) fits h =
     let most = leb-true n high (and_parts (nat_le low n) (nat_le n high) h).1 in
@@ -201,7 +201,7 @@ draft_sound d ranged apart leads =
       one_route_a_destination = distinct_map (λ r. number_16 r.destination) route_from (λ r. r.destination) (λ r. refl) d.routes routes_once;
     }
 
--- what a text writes is sound
+-- every plan of a text is sound
 pub plan_sound : (text : List ℕ) (plan : ContactPlan) → plan_of_text text ≡ Ok plan → IsSoundPlan plan
 unfolding plan_of_text
 plan_sound text plan h =

@@ -1,11 +1,11 @@
--- A plan as contracts see it, and what is read of it.
+-- The model of a plan, and its readers.
 use Rattle.std.specs.Prelude.{ℕ, zero, suc, ◌==◌, Bool, List, [], Option, None, option_map, unwrap_or, find, slice_get}
 use Rattle.rly_core.specs.declared.ids.HopId.{HopId}
 use Rattle.rly_core.specs.declared.ids.PeerId.{PeerId}
 use Rattle.rly_core.specs.declared.limits.TheConstants.{DEFAULT_RESEND, MOMENT_LIMIT}
 use Rattle.rly_plan.specs.declared.contacts.Contact.{Contact}
 use Rattle.rly_plan.specs.declared.neighbour.Neighbour.{Neighbour}
-use Rattle.rly_plan.specs.declared.plan.Hop.{Hop}
+use Rattle.rly_plan.specs.declared.plan.NextHop.{NextHop}
 use Rattle.rly_plan.specs.declared.plan.Route.{Route}
 use Rattle.rly_plan.specs.Changes.{change_after}
 use Rattle.rly_plan.specs.LinkClock.{lies_in_any, open_moments}
@@ -14,7 +14,7 @@ use Rattle.rly_plan.specs.LinkClock.{lies_in_any, open_moments}
 pub record ContactPlan : Type 0 where
   pub station : ℕ
   pub peers : List Neighbour
-  pub hops : List Hop
+  pub hops : List NextHop
   pub routes : List Route
 
 -- the nth of a list, counting from 1
@@ -28,16 +28,15 @@ peer_at plan peer = at_number plan.peers peer.0
 abbrev pub next_hop_at : ContactPlan → HopId → Option Neighbour
 next_hop_at plan hop = option_map (λ h. h.neighbour) (at_number plan.hops hop.0)
 
--- how long nothing has to move before what is in flight to a hop is sent again, in milliseconds: the default for a hop
--- that isn't there
+-- minimum retransmission timeout of a hop, in milliseconds: the default for a hop that doesn't exist
 abbrev pub resend : ContactPlan → HopId → ℕ
 resend plan hop = unwrap_or (option_map (λ h. h.resend) (at_number plan.hops hop.0)) DEFAULT_RESEND
 
--- how many bytes a second may go out to a hop, if that is limited: no rate for a hop that isn't there
+-- rate limit of a hop in bytes a second, if it has one: None for a hop that doesn't exist
 abbrev pub rate : ContactPlan → HopId → Option ℕ
 rate plan hop = unwrap_or (option_map (λ h. h.rate) (at_number plan.hops hop.0)) None
 
--- the contacts of a hop: none for a hop that isn't there
+-- the contacts of a hop: none for a hop that doesn't exist
 abbrev pub contacts_of : ContactPlan → HopId → List Contact
 contacts_of plan hop = unwrap_or (option_map (λ h. h.contacts) (at_number plan.hops hop.0)) []
 
@@ -49,11 +48,11 @@ is_open plan hop moment = lies_in_any (contacts_of plan hop) moment
 abbrev pub link : ContactPlan → HopId → ℕ → ℕ
 link plan hop moment = open_moments (contacts_of plan hop) moment
 
--- when the hop's link opens or closes next
+-- the next opening or closing of the hop's link
 abbrev pub next_change : ContactPlan → HopId → ℕ → Option ℕ
 next_change plan hop moment = change_after (contacts_of plan hop) moment
 
--- how long the hop's link is open in all its contacts: its clock after the last moment that a contact may have
+-- the open time of the hop's link in all its contacts: its clock after the last possible moment of a contact
 abbrev pub open_time : ContactPlan → HopId → ℕ
 open_time plan hop = link plan hop MOMENT_LIMIT
 

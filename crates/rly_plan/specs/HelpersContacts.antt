@@ -1,12 +1,12 @@
--- Nothing is claimed here: how the contacts of a hop are kept and searched, which only private functions speak of.
--- Each contact stands beside how long the link was open in those before it.
+-- Helpers of private functions: how the contacts of a hop are stored and searched. Each contact is stored with the
+-- open time before it.
 use Rattle.std.specs.Prelude.{◌≡◌, ℕ, ◌+◌, ◌-◌, ◌<◌, ◌≤◌, List, [], ◌∷◌, map}
 use Rattle.std.specs.Prelude.{Option, Some, None, nat_lt, if◌then◌else◌}
 use Rattle.rly_core.specs.declared.limits.TheConstants.{MOMENT_LIMIT}
 use Rattle.rly_plan.specs.declared.contacts.Contact.{Contact}
 use Rattle.rly_plan.specs.declared.contacts.Summed.{Summed}
 
--- when the last of the contacts ends: 0 where there is none
+-- the end of the last contact: 0 if there is none
 abbrev pub last_end : List Contact → ℕ
 last_end [] = 0
 last_end (c ∷ []) = c.end
@@ -16,8 +16,8 @@ last_end (c ∷ d ∷ cs) = last_end (d ∷ cs)
 abbrev pub contacts_in : List Summed → List Contact
 contacts_in = map (λ e. e.contact)
 
--- After contacts that ended by `front`, in which the link was open for `sum`: each contact lasts, begins when the
--- one before it has ended, and stands beside the open time before it.
+-- After contacts that ended by `front`, with `sum` of open time: each contact lasts, begins when the one before it
+-- has ended, and is stored with the open time before it.
 abbrev pub AreSummed : ℕ → ℕ → List Summed → Type 0
 AreSummed front sum [] = Unit {0}
 AreSummed front sum (e ∷ es) =
@@ -33,12 +33,12 @@ abbrev pub end_after : ℕ → List Summed → ℕ
 end_after front [] = front
 end_after front (e ∷ es) = end_after e.contact.end es
 
--- the entries are in order beside their sums, and the total is the open time in all of them
+-- the entries are in order with their sums, and the total is the open time in all of them
 pub record AreTotalled (es : List Summed) (total : ℕ) : Type 0 where
   pub summed : AreSummed 0 0 es
   pub total_is : total ≡ sum_after 0 es
 
--- the later of two, where there is one
+-- the later of two, if there is one
 abbrev pub or_later : Summed → Option Summed → Option Summed
 or_later e None = Some e
 or_later e (Some later) = Some later
@@ -48,7 +48,7 @@ abbrev pub latest : List Summed → ℕ → Option Summed
 latest [] moment = None
 latest (e ∷ es) moment = if nat_lt moment e.contact.begin then None else or_later e (latest es moment)
 
--- what is known of an entry that has begun by the moment
+-- the property of an entry that has begun by the moment
 pub record HasBegun (moment : ℕ) (e : Summed) : Type 0 where
   pub begun : e.contact.begin ≤ moment
   pub lasts : e.contact.begin < e.contact.end

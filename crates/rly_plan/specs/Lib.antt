@@ -4,4 +4,4 @@ pub mod HelpersContacts
 pub mod ContactPlan
 pub mod Passes
 pub mod Sound
-pub mod Places
+pub mod KeyPaths

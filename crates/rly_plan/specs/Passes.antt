@@ -10,15 +10,15 @@ use Rattle.rly_core.specs.declared.limits.TheConstants.{MOMENT_LIMIT}
 use Rattle.rly_core.specs.declared.refusal.Refusal.{Refusal}
 use Rattle.rly_core.specs.declared.refusal.Refusal.TheVariants.{Syntax, Unsorted, Overlap, Range, Unknown}
 use Rattle.rly_plan.specs.declared.contacts.Contact.{Contact}
-use Rattle.rly_plan_draft.specs.declared.draft.ContactDraft.{ContactDraft}
-use Rattle.rly_plan_draft.specs.declared.draft.NeighbourDraft.{NeighbourDraft}
-use Rattle.rly_plan_draft.specs.declared.draft.RouteDraft.{RouteDraft}
+use Rattle.rly_plan_syntax.specs.declared.draft.ContactDraft.{ContactDraft}
+use Rattle.rly_plan_syntax.specs.declared.draft.NeighbourDraft.{NeighbourDraft}
+use Rattle.rly_plan_syntax.specs.declared.draft.RouteDraft.{RouteDraft}
 use Rattle.rly_plan.specs.declared.neighbour.Neighbour.{Neighbour}
-use Rattle.rly_plan.specs.declared.plan.Hop.{Hop}
+use Rattle.rly_plan.specs.declared.plan.NextHop.{NextHop}
 use Rattle.rly_plan.specs.declared.plan.Route.{Route}
 use Rattle.rly_plan.specs.ContactPlan.{ContactPlan}
-use Rattle.rly_plan_draft.specs.Draft.{HopText, PlanText, draft_of}
-use Rattle.rly_plan_draft.specs.Keys.{keys_are_known}
+use Rattle.rly_plan_syntax.specs.Draft.{HopText, PlanText, draft_of}
+use Rattle.rly_plan_syntax.specs.Keys.{keys_are_known}
 
 -- ---- numbers
 
@@ -27,16 +27,16 @@ abbrev pub is_between : ℕ → ℕ → ℤ → Bool
 is_between least most (pos n) = nat_le least n && nat_le n most
 is_between least most (negsuc n) = false
 
--- the whole number, where it is not below 0
+-- the whole number, if it is not below 0
 abbrev pub number : ℤ → ℕ
 number (pos n) = n
 number (negsuc n) = 0
 
--- the whole number, where it has 16 bits
+-- the whole number, if it fits 16 bits
 abbrev pub number_16 : ℤ → ℕ
 number_16 z = if is_between 0 65535 z then number z else 0
 
--- the whole number, where it has 32 bits
+-- the whole number, if it fits 32 bits
 abbrev pub number_32 : ℤ → ℕ
 number_32 z = if is_between 0 4294967295 z then number z else 0
 
@@ -53,11 +53,11 @@ neighbour_in_range id n = is_between id id n.id && is_station n.station
 abbrev pub contact_in_range : ContactDraft → Bool
 contact_in_range c = is_between 0 (MOMENT_LIMIT - 1) c.begin && is_between (number c.begin + 1) (MOMENT_LIMIT - 1) c.end
 
--- how long nothing has to move before what is in flight is sent again, in milliseconds
+-- minimum retransmission timeout, in milliseconds
 abbrev pub resend_in_range : ℤ → Bool
 resend_in_range z = is_between MIN_RESEND MAX_RESEND z
 
--- bytes a second, where there is a rate
+-- bytes a second, if there is a rate
 abbrev pub rate_in_range : Option ℤ → Bool
 rate_in_range None = true
 rate_in_range (Some z) = is_between 1 1000000000 z
@@ -77,7 +77,7 @@ abbrev pub all_numbered : {A : Type 0} → (ℕ → A → Bool) → ℕ → List
 all_numbered test n [] = true
 all_numbered test n (x ∷ xs) = test n x && all_numbered test (n + 1) xs
 
--- from 1 row to the most, and each passes the test at its id: 1, 2, 3, ..
+-- from 1 row to `most`, each of which passes the test at its id: 1, 2, 3, ..
 abbrev pub rows_in_range : {A : Type 0} → (ℕ → A → Bool) → ℕ → List A → Bool
 rows_in_range test most rows = (nat_le 1 (length rows) && nat_le (length rows) most) && all_numbered test 1 rows
 
@@ -88,9 +88,9 @@ is_in_range d =
     && (rows_in_range hop_in_range MAX_HOPS d.hops
     && list_all route_in_range d.routes))
 
--- ---- 51 and 52: contacts out of order, or what is there twice
+-- ---- 51 and 52: contacts out of order, or numbers that occur twice
 
--- each two neighbours of the list pass the test
+-- each two adjacent elements of the list pass the test
 abbrev pub all_adjacent : {A : Type 0} → (A → A → Bool) → List A → Bool
 all_adjacent test [] = true
 all_adjacent test (x ∷ []) = true
@@ -106,7 +106,7 @@ are_apart front c = nat_le (number front.end) (number c.begin)
 abbrev pub is_sorted : PlanText → Bool
 is_sorted d = list_all (λ h. all_adjacent begin_in_order h.contacts) d.hops
 
--- some number is there twice
+-- some number occurs twice
 abbrev pub repeats : List ℕ → Bool
 repeats [] = false
 repeats (x ∷ xs) = list_any (λ y. y == x) xs || repeats xs
@@ -118,7 +118,7 @@ overlaps d =
     || (repeats (map (λ h. number_16 h.neighbour.station) d.hops)
     || repeats (map (λ r. number_16 r.destination) d.routes)))
 
--- ---- 54: a route to a hop that isn't there
+-- ---- 54: a route to a hop that doesn't exist
 
 abbrev pub leads_to_hops : PlanText → Bool
 leads_to_hops d = list_all (λ r. is_between 1 (length d.hops) r.hop) d.routes
@@ -131,7 +131,7 @@ neighbour_from n = record { station = number_16 n.station; addresses = n.address
 abbrev pub contact_from : ContactDraft → Contact
 contact_from c = record { begin = number c.begin; end = number c.end }
 
-abbrev pub hop_from : HopText → Hop
+abbrev pub hop_from : HopText → NextHop
 hop_from h = record {
   neighbour = neighbour_from h.neighbour;
   resend = number_32 h.resend;
@@ -165,6 +165,6 @@ abbrev pub plan_of_document : Option Members → Result ContactPlan Refusal
 plan_of_document None = Err Syntax
 plan_of_document (Some ms) = if not (keys_are_known ms) then Err Unknown else plan_of_draft (draft_of ms)
 
--- the plan that a text writes, or the first fault of its passes
+-- the plan that a text holds, or the first fault of its passes
 unfoldable pub plan_of_text : List ℕ → Result ContactPlan Refusal
 plan_of_text text = plan_of_document (parse_document text)

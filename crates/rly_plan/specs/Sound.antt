@@ -1,4 +1,4 @@
--- What every plan keeps, whatever its text.
+-- Properties of every plan, whatever its text.
 use Rattle.std.specs.Prelude.{◌≢◌, ℕ, ◌<◌, ◌≤◌, List, length, IfSome}
 use Rattle.std.specs.List.{All, AllPairs}
 use Rattle.rly_core.specs.Bounds.{IsIn}
@@ -11,7 +11,7 @@ use Rattle.rly_plan.specs.ContactPlan.{ContactPlan}
 abbrev pub IsStationNumber : ℕ → Type 0
 IsStationNumber n = IsIn 1 65535 n
 
--- each contact lasts, and ends before any later one begins or as it begins
+-- each contact lasts, and ends no later than the next one begins
 pub record AreInOrder (contacts : List Contact) : Type 0 where
   pub count : length contacts ≤ MAX_CONTACTS
   pub lasting : All (λ c. (c.begin < c.end) × (c.end < MOMENT_LIMIT)) contacts

@@ -13,11 +13,11 @@ use std::marker::Model;
 pub(crate) struct Contact {
     /// The first moment of the contact.
     pub begin: u64,
-    /// The first moment after it.
+    /// The first moment after the contact.
     pub end: u64,
 }
 
-/// A contact, and how long the link was open in the contacts before it.
+/// A contact, and the open time of the link before it, in microseconds.
 #[derive(Clone, Copy)]
 struct Summed {
     contact: Contact,
@@ -28,7 +28,7 @@ struct Summed {
 #[derive(Drop)]
 pub(crate) struct Contacts {
     entries: Vec<Summed>,
-    /// How long the link is open in all of them.
+    /// The open time in all of them, in microseconds.
     total: u64,
 }
 
@@ -56,7 +56,7 @@ impl Contacts {
         }
     }
 
-    /// Puts a contact after the others. An `Err` leaves them as they were.
+    /// Appends a contact. An `Err` leaves the contacts unchanged.
     pub(crate) fn push(&mut self, contact: Contact) -> Result<(), AllocError>
         requires behind { last_end self.old ≤ contact.begin }
         requires lasts { contact.begin < contact.end }
@@ -83,7 +83,7 @@ impl Contacts {
         }
     }
 
-    /// How many of the moments before this one lie in a contact.
+    /// The number of moments before this one that lie in a contact.
     pub(crate) fn link(&self, moment: u64) -> u64
         ensures { result ≡ open_moments self.now moment }
     {
@@ -93,7 +93,7 @@ impl Contacts {
         }
     }
 
-    /// How many contacts there are.
+    /// The number of contacts.
     pub(crate) fn len(&self) -> usize
         ensures { result ≡ length self.now }
     {
@@ -124,7 +124,7 @@ fn change_after(entries: &[Summed], moment: u64) -> Option<u64>
     None
 }
 
-/// When a link closes that is open up to an end, by the contacts behind it.
+/// The end of the open time that lasts up to `end`, by the contacts after it.
 fn closing_after(end: u64, entries: &[Summed]) -> u64
     ensures { result ≡ closing_after end (contacts_in entries.now) }
 {

@@ -36,14 +36,15 @@ pub fn law_link_runs_while_open(plan: &Plan, hop: HopId, earlier: u64, later: u6
     ensures { link plan.now hop later ≡ link plan.now hop earlier + (later - earlier) }
 {}
 
-/// In a sound plan, a hop's link stays as it is up to its next change, and is otherwise then. Where there is no next change it
-/// stays as it is for good.
+/// In a sound plan, a hop's link keeps its state up to its next change, and changes at that moment. Without a next
+/// change it keeps its state for good.
 pub fn law_next_change()
-    ensures { (plan : ContactPlan) (hop : AHop) (moment : ℕ) → IsSoundPlan plan → IsNextChange (is_open plan hop) moment (next_change plan hop moment) }
+    ensures { (plan : ContactPlan) (hop : AHop) (moment : ℕ) → IsSoundPlan plan
+        → IsNextChange (is_open plan hop) moment (next_change plan hop moment) }
 {}
 
-/// Whatever its text, a plan is sound: its numbers are in range, its contacts in order and apart,
-/// its stations and destinations there once, and its routes lead to hops that are there.
+/// Every plan is sound: its numbers are in range, its contacts in order and disjoint, its stations and destinations
+/// unique, and each route leads to an existing hop.
 pub fn law_plan_is_sound()
     ensures { (text : List ℕ) (plan : ContactPlan) → plan_of_text text ≡ Ok plan → IsSoundPlan plan }
 {}

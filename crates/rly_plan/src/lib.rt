@@ -1,17 +1,14 @@
-//! The contact plan: which link is open when, and where a destination goes.
-//!
-//! `Plan::from_toml` answers the plan that a text writes, or the first fault of the passes over it
-//! (`specs/Passes.antt`; `docs/FORMATS.md`, "The plan"): `rly_plan_draft` reads its keys and
-//! values, and this crate judges the numbers. `Plan::link` is the link clock: at how many of the
-//! moments before now a hop's link was open (`specs/LinkClock.antt`). The crate holds no handle,
-//! and takes no memory once a plan is read. Callers: the workers, and the crates above that are
-//! given a plan.
+//! Contact plans: when the link to each next hop is open, and the next hop of each destination.
+//! `Plan::from_toml` parses and checks a plan, or returns its first fault (`specs/Passes.antt`;
+//! `docs/FORMATS.md`, "The plan"). `Plan::link` is the link clock: the open time of a hop's link
+//! before a moment, in microseconds (`specs/LinkClock.antt`). A plan takes no memory after it was
+//! read. Callers: `rly_threads_workers`, and each crate above that is given a plan.
 #![tactic(auto)]
 
 mod contacts;
 mod laws;
 mod neighbour;
-mod number_places;
+mod number_paths;
 mod passes;
 mod plan;
 mod plan_fault;
@@ -21,6 +18,6 @@ pub use crate::laws::{
     law_link_stands_while_closed, law_next_change, law_plan_is_sound,
 };
 pub use crate::neighbour::Neighbour;
-pub use crate::plan::{Hop, Plan, Route};
+pub use crate::plan::{NextHop, Plan, Route};
 pub use crate::plan_fault::PlanFault;
-pub use rly_plan_draft::{Addresses, Key, KeyFile, Place, Position, Row, Spot};
+pub use rly_plan_syntax::{Addresses, KeyFile, KeyPath, PlanKey, Position, Row, Spot};

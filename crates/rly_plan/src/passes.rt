@@ -1,13 +1,15 @@
-//! Passes 4 to 7: the numbers of a plan, each pass over the whole of it. A pass is met where it
-//! tells no place of a fault.
+//! Passes 4 to 7: each checks a property of the numbers of the whole plan. A pass succeeds iff
+//! `number_places` locates no fault for it.
 
 ghost use Rattle.std.specs.Prelude.{◌≡◌, ◌<◌, ◌^◌, ℕ, false, IfOk, map, slice_index_or, vec_len};
-ghost use Rattle.rly_plan.specs.Passes.{contact_from, contact_in_range, is_between, is_in_range, is_sorted, is_station, leads_to_hops, number, number_16, number_32, overlaps, rate_in_range, repeats, resend_in_range};
+ghost use Rattle.rly_plan.specs.Passes.{contact_from, contact_in_range, is_between, is_in_range, is_sorted, is_station};
+ghost use Rattle.rly_plan.specs.Passes.{leads_to_hops, number, number_16, number_32, overlaps, rate_in_range, repeats};
+ghost use Rattle.rly_plan.specs.Passes.{resend_in_range};
 
 use crate::contacts::Contact;
-use crate::number_places::{Numbered, are_apart, lead_place, range_place, sorted_place};
+use crate::number_paths::{Numbered, are_apart, lead_place, range_place, sorted_place};
 use rly_core::limits::{MAX_RESEND, MIN_RESEND, MOMENT_LIMIT};
-use rly_plan_draft::{ContactDraft, PlanDraft};
+use rly_plan_syntax::{ContactDraft, PlanDraft};
 use std::alloc::{AllocError, Global};
 
 /// The greatest `rate` of a hop, in bytes a second. The least is 1.
@@ -27,8 +29,8 @@ pub(crate) fn is_sorted(draft: &PlanDraft) -> bool
     sorted_place(draft).is_none()
 }
 
-/// Pass 6: whether a contact begins before the one before it ends, or a station of the
-/// peers, one of the hops or a destination is there twice.
+/// Pass 6: whether a contact begins before the one before it ends, or two peers have one station, or two hops have
+/// one, or two routes have one destination.
 pub(crate) fn overlaps(alloc: Global, draft: &PlanDraft) -> Result<bool, AllocError>
     ensures { IfOk result (λ found. found ≡ overlaps draft.now) }
 {
@@ -39,7 +41,7 @@ pub(crate) fn overlaps(alloc: Global, draft: &PlanDraft) -> Result<bool, AllocEr
     Ok(overlaps)
 }
 
-/// Pass 7: whether each route leads to a hop that is there.
+/// Pass 7: whether each route leads to an existing hop.
 pub(crate) fn leads_to_hops(draft: &PlanDraft) -> bool
     ensures { result ≡ leads_to_hops draft.now }
 {
@@ -47,7 +49,7 @@ pub(crate) fn leads_to_hops(draft: &PlanDraft) -> bool
 }
 
 /// The contact of a draft, with 0 in place of a number below 0.
-pub(crate) fn settled_contact(draft: &ContactDraft) -> Contact
+pub(crate) fn contact_of_draft(draft: &ContactDraft) -> Contact
     ensures { result ≡ contact_from draft.now }
 {
     Contact {
@@ -56,7 +58,7 @@ pub(crate) fn settled_contact(draft: &ContactDraft) -> Contact
     }
 }
 
-/// Whether the number of a table is there twice.
+/// Whether two tables have the same number.
 fn rows_repeat<N: Numbered>(alloc: Global, rows: &[N]) -> Result<bool, AllocError>
     ensures { IfOk result (λ found. found ≡ repeats (map N.number rows.now)) }
 {
@@ -92,7 +94,7 @@ pub(crate) fn is_station(station: i64) -> bool
     is_between(station, 1, 65_535)
 }
 
-/// Whether a number is there twice.
+/// Whether a number occurs twice.
 fn repeats(alloc: Global, numbers: &[u16]) -> Result<bool, AllocError>
     ensures { IfOk result (λ found. found ≡ repeats numbers.now) }
 {
@@ -107,7 +109,7 @@ fn repeats(alloc: Global, numbers: &[u16]) -> Result<bool, AllocError>
     Ok(false)
 }
 
-/// Marks for the numbers below `count`, none of them set.
+/// Marks for the numbers below `count`, all unset.
 fn unmarked(alloc: Global, count: usize) -> Result<Vec<bool>, AllocError>
     ensures len { IfOk result (λ marks. vec_len marks ≡ count) }
     ensures unset { IfOk result (λ marks. (n : ℕ) → slice_index_or marks.items n false ≡ false) }
@@ -133,14 +135,14 @@ fn number(value: i64) -> u64
     u64::try_from(value).unwrap_or(0)
 }
 
-/// The whole number, or 0 in place of one that 16 bits don't hold.
+/// The whole number, or 0 in place of one that doesn't fit 16 bits.
 pub(crate) fn number_16(value: i64) -> u16
     ensures { result ≡ number_16 value }
 {
     u16::try_from(value).unwrap_or(0)
 }
 
-/// The whole number, or 0 in place of one that 32 bits don't hold.
+/// The whole number, or 0 in place of one that doesn't fit 32 bits.
 pub(crate) fn number_32(value: i64) -> u32
     ensures { result ≡ number_32 value }
 {

@@ -1,46 +1,48 @@
-ghost use Rattle.std.specs.Prelude.{◌≡◌, ◌≢◌, ◌↔◌, Err, IfErr, IfNone, IfOk, IfSome, map, None, Ok, option_copied, Some, true};
+ghost use Rattle.std.specs.Prelude.{◌≡◌, ◌≢◌, ◌↔◌, Err, IfErr, IfNone, IfOk, IfSome, map, None, Ok, option_copied};
+ghost use Rattle.std.specs.Prelude.{Some, true};
 ghost use Rattle.toml.specs.Errors.{IsMemory, IsWithin};
-ghost use Rattle.rly_plan.specs.Places.{IsFaultPlace, place_of_draft};
+ghost use Rattle.rly_plan.specs.KeyPaths.{IsFaultPlace, place_of_draft};
 ghost use Rattle.std.specs.List.{list_all};
 ghost use Rattle.rly_plan.specs.ContactPlan.{at_number};
-ghost use Rattle.rly_plan.specs.Passes.{all_adjacent, are_apart, contact_from, contact_in_range, hop_from, neighbour_from, plan_from, plan_of_draft, route_from};
+ghost use Rattle.rly_plan.specs.Passes.{all_adjacent, are_apart, contact_from, contact_in_range, hop_from};
+ghost use Rattle.rly_plan.specs.Passes.{neighbour_from, plan_from, plan_of_draft, route_from};
 
 use crate::contacts::Contacts;
 use crate::neighbour::Neighbour;
-use crate::number_places::{lead_place, overlap_place, range_place, sorted_place};
+use crate::number_paths::{lead_place, overlap_place, range_place, sorted_place};
 use crate::passes::{
-    is_in_range, is_sorted, leads_to_hops, number_16, number_32, overlaps, settled_contact,
+    contact_of_draft, is_in_range, is_sorted, leads_to_hops, number_16, number_32, overlaps,
 };
 use crate::plan_fault::PlanFault;
 use rly_core::limits::{DEFAULT_RESEND, MOMENT_LIMIT};
 use rly_core::{HopId, PeerId, Refusal};
-use rly_plan_draft::{
-    ContactDraft, HopDraft, NeighbourDraft, Place, PlanDraft, RouteDraft, keys_are_known,
+use rly_plan_syntax::{
+    ContactDraft, HopDraft, KeyPath, NeighbourDraft, PlanDraft, RouteDraft, keys_are_known,
     missing_place, position_after, unknown_place,
 };
 use std::alloc::{AllocError, Global};
 use std::marker::Model;
 use toml::de::Error;
 
-/// A next hop: the neighbour, how long what is in flight to it waits, and when its link is open.
+/// A next hop: the neighbour, its retransmission timeout, its rate, and the contacts of its link.
 #[derive(Drop)]
-pub struct Hop {
+pub struct NextHop {
     /// The neighbour that the hop leads to.
     pub neighbour: Neighbour,
-    /// How long nothing has to move before what is in flight is sent again, in milliseconds.
+    /// Minimum retransmission timeout, in milliseconds.
     pub resend: u32,
-    /// How many bytes a second may go out, 1 to 10^9, if that is limited.
+    /// Maximum rate in bytes a second, 1 to 10^9; `None`: unlimited.
     pub rate: Option<u32>,
-    /// When the link is open.
+    /// The times in which the link is open.
     pub(crate) contacts: Contacts,
 }
 
-impl Hop {
+impl NextHop {
     ghost use Rattle.std.specs.Prelude.{◌≡◌, ◌<◌, IfSome, length};
     ghost use Rattle.rly_plan.specs.Changes.{change_after};
     ghost use Rattle.rly_plan.specs.LinkClock.{lies_in_any, open_moments};
 
-    /// How many contacts its link has.
+    /// The number of contacts of its link.
     pub fn contact_count(&self) -> usize
         ensures { result ≡ length self.now.contacts }
     {
@@ -62,7 +64,7 @@ impl Hop {
         self.contacts.next_change(moment)
     }
 
-    /// How long its link is open in all its contacts, in microseconds.
+    /// The open time of its link in all contacts, in microseconds.
     pub fn open_time(&self) -> u64
         ensures { result ≡ open_moments self.now.contacts MOMENT_LIMIT }
     {
@@ -70,7 +72,7 @@ impl Hop {
     }
 }
 
-/// Where the datagrams for a destination go.
+/// The next hop of a destination.
 #[derive(Clone, Copy, PartialEq, Eq)]
 pub struct Route {
     /// The destination's station number.
@@ -79,13 +81,13 @@ pub struct Route {
     pub hop: HopId,
 }
 
-/// A contact plan: this station, its neighbours on both sides, when the link with each next hop is
-/// open, and which hop each destination goes to.
+/// A contact plan: this station, its neighbours on both sides, the contacts of each next hop's link, and the
+/// routes.
 #[derive(Drop)]
 pub struct Plan {
     station: u16,
     peers: Vec<Neighbour>,
-    hops: Vec<Hop>,
+    hops: Vec<NextHop>,
     routes: Vec<Route>,
 }
 
@@ -94,19 +96,20 @@ impl Model for Plan {
 
     ghost Value = { ContactPlan };
 
-    ghost view = { λ p. record { station = p.station; peers = p.peers.items; hops = p.hops.items; routes = p.routes.items } };
+    ghost view = { λ p.
+        record { station = p.station; peers = p.peers.items; hops = p.hops.items; routes = p.routes.items } };
 }
 
 impl Plan {
     ghost use Rattle.std.specs.Prelude.{◌≡◌, ◌≢◌, ◌<◌, length, IfErr, IfOk, IfSome, None, Ok, Err, option_copied};
-    ghost use Rattle.rly_plan.specs.ContactPlan.{hop_for, is_open, link, next_change, next_hop_at, open_time, peer_at, rate, resend};
+    ghost use Rattle.rly_plan.specs.ContactPlan.{hop_for, is_open, link, next_change, next_hop_at, open_time, peer_at};
+    ghost use Rattle.rly_plan.specs.ContactPlan.{rate, resend};
     ghost use Rattle.rly_plan.specs.Passes.{plan_of_text};
-    ghost use Rattle.rly_plan.specs.Places.{IsPlaceOf};
+    ghost use Rattle.rly_plan.specs.KeyPaths.{IsPlaceOf};
     ghost use Rattle.toml.specs.Errors.{IsBlank};
 
-    /// The plan that a text writes (`docs/FORMATS.md`, "The plan"), or the first fault of its
-    /// passes: 50 to 54. 14 is answered only where memory was refused, and never to a text that has only
-    /// white space and comments.
+    /// Parses and checks a plan (`docs/FORMATS.md`, "The plan"), or returns the first fault of its passes: 50 to
+    /// 54. Returns 14 only if memory was refused, and never for a text of only white space and comments.
     pub fn from_toml(alloc: Global, text: &str) -> Result<Plan, Refusal>
         ensures plan { IfOk result (λ plan. plan_of_text text.now ≡ Ok plan) }
         ensures fault { IfErr result (λ fault. fault ≢ Refusal.OutOfMemory → plan_of_text text.now ≡ Err fault) }
@@ -118,12 +121,14 @@ impl Plan {
         }
     }
 
-    /// As `from_toml`, and tells where the first fault is.
-    #[tactic(auto, unfolding(crate::specs::Passes::plan_of_text, crate::specs::Places::IsPlaceOf))]
+    /// The same as `from_toml`, with the location of the first fault.
+    #[tactic(auto, unfolding(crate::specs::Passes::plan_of_text, crate::specs::KeyPaths::IsPlaceOf))]
     pub fn read(alloc: Global, text: &str) -> Result<Plan, PlanFault>
         ensures plan { IfOk result (λ plan. plan_of_text text.now ≡ Ok plan) }
-        ensures fault { IfErr result (λ fault. fault.refusal ≢ Refusal.OutOfMemory → plan_of_text text.now ≡ Err fault.refusal) }
-        ensures memory { IfErr result (λ fault. fault.refusal ≡ Refusal.OutOfMemory → (fault.place ≡ None) × (¬ IsBlank text.now)) }
+        ensures fault { IfErr result
+            (λ fault. fault.refusal ≢ Refusal.OutOfMemory → plan_of_text text.now ≡ Err fault.refusal) }
+        ensures memory { IfErr result
+            (λ fault. fault.refusal ≡ Refusal.OutOfMemory → (fault.place ≡ None) × (¬ IsBlank text.now)) }
         ensures place { IfErr result (λ fault. fault.refusal ≢ Refusal.OutOfMemory → IsPlaceOf text.now fault.place) }
     {
         let document = match toml::table_from_str(alloc, text) {
@@ -138,7 +143,7 @@ impl Plan {
             Ok(None) => return Err(PlanFault::at(Refusal::Syntax, missing_place(&document))),
             Err(_) => return Err(PlanFault::memory()),
         };
-        judged(alloc, draft)
+        checked_plan(alloc, draft)
     }
 
     /// This station's number, 1 to 65,535.
@@ -148,14 +153,14 @@ impl Plan {
         self.station
     }
 
-    /// How many upstream neighbours there are: their ids are 1, 2, 3, ..
+    /// The number of upstream neighbours: their ids are 1, 2, 3, ..
     pub fn peer_count(&self) -> usize
         ensures { result ≡ length self.now.peers }
     {
         self.peers.len()
     }
 
-    /// How many next hops there are: their ids are 1, 2, 3, ..
+    /// The number of next hops: their ids are 1, 2, 3, ..
     pub fn hop_count(&self) -> usize
         ensures { result ≡ length self.now.hops }
     {
@@ -170,7 +175,7 @@ impl Plan {
     }
 
     /// The next hops, in the order of their ids.
-    pub fn hops(&self) -> &[Hop]
+    pub fn hops(&self) -> &[NextHop]
         ensures { result.now ≡ self.now.hops }
     {
         &self.hops
@@ -200,8 +205,8 @@ impl Plan {
         }
     }
 
-    /// How long nothing has to move before what is in flight to a hop is sent again, in milliseconds:
-    /// 10 to 3,600,000, and the default for a hop that isn't there.
+    /// The minimum retransmission timeout of a hop, in milliseconds: 10 to 3,600,000. The default for a hop that
+    /// doesn't exist.
     pub fn resend(&self, hop: HopId) -> u32
         ensures { result ≡ resend self.now hop }
     {
@@ -211,7 +216,7 @@ impl Plan {
         }
     }
 
-    /// How many bytes a second may go out to a hop, if that is limited: 1 to 10^9, and none for a hop that isn't there.
+    /// The rate limit of a hop in bytes a second, 1 to 10^9: `None` if it has none or doesn't exist.
     pub fn rate(&self, hop: HopId) -> Option<u32>
         ensures { result ≡ rate self.now hop }
     {
@@ -221,7 +226,7 @@ impl Plan {
         }
     }
 
-    /// The hop that the datagrams for a destination go to.
+    /// The next hop of the datagrams for a destination.
     pub fn hop_for(&self, destination: u16) -> Option<HopId>
         ensures { result ≡ hop_for self.now destination }
     {
@@ -233,7 +238,7 @@ impl Plan {
         None
     }
 
-    /// Whether the link of a hop is open at a moment: never, for a hop that isn't there.
+    /// Whether the link of a hop is open at a moment: false for a hop that doesn't exist.
     pub fn is_open(&self, hop: HopId, moment: u64) -> bool
         ensures { result ≡ is_open self.now hop moment }
     {
@@ -243,8 +248,8 @@ impl Plan {
         }
     }
 
-    /// The link clock of a hop, in microseconds: at how many of the moments before this one its link
-    /// was open. It stays at 0 for a hop that isn't there.
+    /// The link clock of a hop, in microseconds: the number of moments before this one at which its link was open.
+    /// 0 for a hop that doesn't exist.
     pub fn link(&self, hop: HopId, moment: u64) -> u64
         ensures { result ≡ link self.now hop moment }
     {
@@ -254,8 +259,8 @@ impl Plan {
         }
     }
 
-    /// The first moment after this one at which the link of a hop opens or closes: `None` after the last, and for a hop that
-    /// isn't there.
+    /// The first moment after this one at which the link of a hop opens or closes: `None` after the last, and for a
+    /// hop that doesn't exist.
     pub fn next_change(&self, hop: HopId, moment: u64) -> Option<u64>
         ensures change { result ≡ next_change self.now hop moment }
         ensures bounded { IfSome result (λ change. change < MOMENT_LIMIT) }
@@ -266,7 +271,7 @@ impl Plan {
         }
     }
 
-    /// How long the link of a hop is open in all its contacts, in microseconds: 0 for a hop that isn't there.
+    /// The open time of a hop's link in all its contacts, in microseconds: 0 for a hop that doesn't exist.
     pub fn open_time(&self, hop: HopId) -> u64
         ensures { result ≡ open_time self.now hop }
     {
@@ -284,7 +289,7 @@ fn at_number<T>(items: &[T], number: u16) -> Option<&T>
     }
 }
 
-/// Why TOML refuses a text, and where.
+/// The fault of a text that TOML refuses, and its position.
 fn fault_of_text(text: &str, error: &Error) -> PlanFault
     requires { IsWithin text.now error.now }
     ensures memory { (result.refusal ≡ Refusal.OutOfMemory) ↔ IsMemory error.now }
@@ -295,22 +300,23 @@ fn fault_of_text(text: &str, error: &Error) -> PlanFault
     match error.span() {
         Some(span) => {
             let position = position_after(text, span.start);
-            PlanFault::at(Refusal::Syntax, Some(Place::Text(position)))
+            PlanFault::at(Refusal::Syntax, Some(KeyPath::Text(position)))
         }
         None => PlanFault::memory(),
     }
 }
 
 /// The plan of a draft, or the first fault of the passes over its numbers.
-fn judged(alloc: Global, draft: PlanDraft) -> Result<Plan, PlanFault>
+fn checked_plan(alloc: Global, draft: PlanDraft) -> Result<Plan, PlanFault>
     ensures plan { IfOk result (λ plan. plan_of_draft (Some draft) ≡ Ok plan) }
-    ensures fault { IfErr result (λ fault. fault.refusal ≢ Refusal.OutOfMemory → plan_of_draft (Some draft) ≡ Err fault.refusal) }
+    ensures fault { IfErr result
+        (λ fault. fault.refusal ≢ Refusal.OutOfMemory → plan_of_draft (Some draft) ≡ Err fault.refusal) }
     ensures memory { IfErr result (λ fault. fault.refusal ≡ Refusal.OutOfMemory → fault.place ≡ None) }
     ensures place { IfErr result (λ fault. fault.refusal ≢ Refusal.OutOfMemory → fault.place ≡ place_of_draft draft) }
 {
     match first_fault(alloc, &draft) {
         Some(fault) => Err(fault),
-        None => match settled(alloc, draft) {
+        None => match plan_of_valid_draft(alloc, draft) {
             Ok(plan) => Ok(plan),
             Err(_) => Err(PlanFault::memory()),
         },
@@ -320,9 +326,11 @@ fn judged(alloc: Global, draft: PlanDraft) -> Result<Plan, PlanFault>
 /// The first fault of the passes over a draft's numbers.
 fn first_fault(alloc: Global, draft: &PlanDraft) -> Option<PlanFault>
     ensures plan { IfNone result (plan_of_draft (Some draft.now) ≡ Ok (plan_from draft.now)) }
-    ensures fault { IfSome result (λ fault. fault.refusal ≢ Refusal.OutOfMemory → plan_of_draft (Some draft.now) ≡ Err fault.refusal) }
+    ensures fault { IfSome result
+        (λ fault. fault.refusal ≢ Refusal.OutOfMemory → plan_of_draft (Some draft.now) ≡ Err fault.refusal) }
     ensures memory { IfSome result (λ fault. fault.refusal ≡ Refusal.OutOfMemory → fault.place ≡ None) }
-    ensures place { IfSome result (λ fault. fault.refusal ≢ Refusal.OutOfMemory → fault.place ≡ place_of_draft draft.now) }
+    ensures place { IfSome result
+        (λ fault. fault.refusal ≢ Refusal.OutOfMemory → fault.place ≡ place_of_draft draft.now) }
 {
     if !is_in_range(draft) {
         return Some(PlanFault::at(Refusal::Range, range_place(draft)));
@@ -342,7 +350,7 @@ fn first_fault(alloc: Global, draft: &PlanDraft) -> Option<PlanFault>
 }
 
 /// The plan of a draft whose numbers are in range and whose contacts don't overlap.
-fn settled(alloc: Global, draft: PlanDraft) -> Result<Plan, AllocError>
+fn plan_of_valid_draft(alloc: Global, draft: PlanDraft) -> Result<Plan, AllocError>
     requires ranged { list_all (λ h. list_all contact_in_range h.contacts) draft.hops ≡ true }
     requires apart { list_all (λ h. all_adjacent are_apart h.contacts) draft.hops ≡ true }
     ensures { IfOk result (λ plan. plan ≡ plan_from draft) }
@@ -355,22 +363,22 @@ fn settled(alloc: Global, draft: PlanDraft) -> Result<Plan, AllocError>
     } = draft;
     Ok(Plan {
         station: number_16(station),
-        peers: settled_peers(alloc, peers)?,
-        hops: settled_hops(alloc, hops)?,
-        routes: settled_routes(alloc, &routes)?,
+        peers: peers_of_draft(alloc, peers)?,
+        hops: hops_of_draft(alloc, hops)?,
+        routes: routes_of_draft(alloc, &routes)?,
     })
 }
 
-fn settled_peers(alloc: Global, drafts: Vec<NeighbourDraft>) -> Result<Vec<Neighbour>, AllocError>
+fn peers_of_draft(alloc: Global, drafts: Vec<NeighbourDraft>) -> Result<Vec<Neighbour>, AllocError>
     ensures { IfOk result (λ peers. peers.items ≡ map neighbour_from drafts.items) }
 {
     drafts
         .into_iter()
-        .map(|draft| settled_neighbour(draft))
+        .map(|draft| neighbour_of_draft(draft))
         .collect(alloc)
 }
 
-fn settled_neighbour(draft: NeighbourDraft) -> Neighbour
+fn neighbour_of_draft(draft: NeighbourDraft) -> Neighbour
     ensures { result ≡ neighbour_from draft }
 {
     let NeighbourDraft {
@@ -386,16 +394,16 @@ fn settled_neighbour(draft: NeighbourDraft) -> Neighbour
     }
 }
 
-fn settled_routes(alloc: Global, drafts: &[RouteDraft]) -> Result<Vec<Route>, AllocError>
+fn routes_of_draft(alloc: Global, drafts: &[RouteDraft]) -> Result<Vec<Route>, AllocError>
     ensures { IfOk result (λ routes. routes.items ≡ map route_from drafts.now) }
 {
     drafts
         .iter()
-        .map(|draft| settled_route(*draft))
+        .map(|draft| route_of_draft(*draft))
         .collect(alloc)
 }
 
-fn settled_route(draft: RouteDraft) -> Route
+fn route_of_draft(draft: RouteDraft) -> Route
     ensures { result ≡ route_from draft }
 {
     Route {
@@ -404,19 +412,19 @@ fn settled_route(draft: RouteDraft) -> Route
     }
 }
 
-fn settled_hops(alloc: Global, drafts: Vec<HopDraft>) -> Result<Vec<Hop>, AllocError>
+fn hops_of_draft(alloc: Global, drafts: Vec<HopDraft>) -> Result<Vec<NextHop>, AllocError>
     requires ranged { list_all (λ h. list_all contact_in_range h.contacts) drafts.items ≡ true }
     requires apart { list_all (λ h. all_adjacent are_apart h.contacts) drafts.items ≡ true }
     ensures { IfOk result (λ hops. hops.items ≡ map hop_from drafts.items) }
 {
     let mut hops = Vec::new(alloc);
     for draft in drafts {
-        hops.push(settled_hop(alloc, draft)?)?;
+        hops.push(hop_of_draft(alloc, draft)?)?;
     }
     Ok(hops)
 }
 
-fn settled_hop(alloc: Global, draft: HopDraft) -> Result<Hop, AllocError>
+fn hop_of_draft(alloc: Global, draft: HopDraft) -> Result<NextHop, AllocError>
     requires ranged { list_all contact_in_range draft.contacts ≡ true }
     requires apart { all_adjacent are_apart draft.contacts ≡ true }
     ensures { IfOk result (λ hop. hop ≡ hop_from draft) }
@@ -427,22 +435,22 @@ fn settled_hop(alloc: Global, draft: HopDraft) -> Result<Hop, AllocError>
         rate,
         contacts,
     } = draft;
-    Ok(Hop {
-        neighbour: settled_neighbour(neighbour),
+    Ok(NextHop {
+        neighbour: neighbour_of_draft(neighbour),
         resend: number_32(resend),
         rate: rate.map(number_32),
-        contacts: settled_contacts(alloc, &contacts)?,
+        contacts: contacts_of_draft(alloc, &contacts)?,
     })
 }
 
-fn settled_contacts(alloc: Global, drafts: &[ContactDraft]) -> Result<Contacts, AllocError>
+fn contacts_of_draft(alloc: Global, drafts: &[ContactDraft]) -> Result<Contacts, AllocError>
     requires ranged { list_all contact_in_range drafts.now ≡ true }
     requires apart { all_adjacent are_apart drafts.now ≡ true }
     ensures { IfOk result (λ contacts. contacts ≡ map contact_from drafts.now) }
 {
     let mut contacts = Contacts::new(alloc);
     for draft in drafts {
-        contacts.push(settled_contact(draft))?;
+        contacts.push(contact_of_draft(draft))?;
     }
     Ok(contacts)
 }

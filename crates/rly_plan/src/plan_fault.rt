@@ -1,13 +1,13 @@
 use rly_core::Refusal;
-use rly_plan_draft::Place;
+use rly_plan_syntax::KeyPath;
 
-/// Why a text is no plan, and where.
+/// A refusal of a text that is no plan, with its location.
 #[derive(Clone, Copy, PartialEq, Eq)]
 pub struct PlanFault {
-    /// 50 to 54, or 14 where memory was refused.
+    /// 50 to 54, or 14 if memory was refused.
     pub refusal: Refusal,
-    /// Where the fault is. A refusal of memory has no place.
-    pub place: Option<Place>,
+    /// The location of the fault: `None` if memory was refused.
+    pub place: Option<KeyPath>,
 }
 
 impl PlanFault {
@@ -24,8 +24,8 @@ impl PlanFault {
         }
     }
 
-    /// A fault at a place.
-    pub(crate) fn at(refusal: Refusal, place: Option<Place>) -> PlanFault
+    /// A fault at a location.
+    pub(crate) fn at(refusal: Refusal, place: Option<KeyPath>) -> PlanFault
         ensures refusal { result.refusal ≡ refusal }
         ensures place { result.place ≡ place }
     {

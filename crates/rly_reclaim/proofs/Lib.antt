@@ -1,3 +1,9 @@
 pub mod Rooms
 pub mod Scanning
 pub mod Sums
+pub mod Weights
+pub mod Collection
+pub mod LiveRooms
+pub mod Emptying
+pub mod RemovedPayloads
+pub mod Placing

@@ -1,7 +1,7 @@
--- What a scan of the segments has found, as far as it has come.
+-- The progress of a scan of the segments.
 use Rattle.std.proofs.Common.{◌≡◌, ◌≢◌, ◌⊎◌, ⊎_elim, ℕ, ◌+◌, ◌<◌, ◌≤◌, List, length, rules, arith, slice_index, subst, sym}
 use Rattle.std.proofs.lemmas.Bool.{cases_eq}
-use Rattle.rly_reclaim.specs.Reclaiming.{IsVictim, MayOpen}
+use Rattle.rly_reclaim.specs.SegmentChoice.{IsVictim, MayOpen}
 
 -- none of the segments before this one may be opened
 abbrev pub NoneBefore : List ℕ → ℕ → ℕ → Type 0
@@ -14,7 +14,7 @@ none_further live current segment none not s may =
     ⊎_elim (λ same. absurd (not (subst (λ at. MayOpen live current at) same may)))
     (λ other. omega (arith, none s may, other)) (cases_eq s segment)
 
--- of the segments before this one, the first with the fewest live bytes but for the free one
+-- of the segments before this one, the first with the fewest live bytes, except the free one
 pub record IsLeastBefore (live : List ℕ) (free segment least : ℕ) : Type 0 where
   pub scanned : least < segment
   pub there : least < length live
@@ -34,7 +34,7 @@ least_first live free least there other only = record {
   first = λ s before not. absurd (not (only s before));
 }
 
--- a segment that is free, or has no fewer, changes nothing
+-- a segment that is free, or doesn't have fewer, changes nothing
 pub least_stays : (live : List ℕ) (free segment least : ℕ) → IsLeastBefore live free segment least
     → (segment ≡ free) ⊎ (slice_index live least ≤ slice_index live segment) → IsLeastBefore live free (segment + 1) least
 least_stays live free segment least found more = record {

@@ -1,4 +1,4 @@
--- How much a list of numbers adds up to at least.
+-- Lower bounds of the sum of a list of numbers.
 use Rattle.std.proofs.Common.{◌≡◌, ◌≢◌, ℕ, zero, suc, ◌+◌, ◌*◌, ◌/◌, ◌-◌, ◌<◌, ◌≤◌, List, [], ◌∷◌, length, sum, arith, rules, slice_index, subst}
 use Rattle.std.proofs.Math.Nat.{mul_comm}
 use Rattle.std.proofs.lemmas.Nat.{le-div}
@@ -10,13 +10,13 @@ sum_more x xs = sum_by-cons (λ n. n) x xs
 suc_times : (n m : ℕ) → suc n * m ≡ m + n * m
 suc_times n m = search rules
 
--- where none is less than m
+-- if none is less than m
 pub sum_of_all : (xs : List ℕ) (m : ℕ) → ((i : ℕ) → i < length xs → m ≤ slice_index xs i) → length xs * m ≤ sum xs
 sum_of_all [] m least = search rules
 sum_of_all (x ∷ xs) m least =
     omega (arith, suc_times (length xs) m, sum_more x xs, least 0 (omega arith), sum_of_all xs m (λ i there. least (suc i) (omega (arith, there))))
 
--- where none but one is less than m
+-- if none except one is less than m
 pub sum_of_others : (xs : List ℕ) (at m : ℕ) → ((i : ℕ) → i < length xs → i ≢ at → m ≤ slice_index xs i)
     → length xs * m ≤ sum xs + m
 sum_of_others [] at m least = search rules
@@ -36,7 +36,7 @@ sum_of_others (x ∷ xs) (suc at) m least =
       sum_of_others xs at m (λ i within not. least (suc i) (omega (arith, within)) (λ same. not (omega (arith, same)))),
     )
 
--- so much is none of them where they add up to no more than b
+-- if n - 1 numbers of at least m add up to at most b, then m is at most b / (n - 1)
 pub share_of_others : (n m b : ℕ) → 2 ≤ n → n * m ≤ b + m → m ≤ b / (n - 1)
 share_of_others zero m b many most = absurd (omega (arith, many))
 share_of_others (suc n) m b many most = subst (λ others. m ≤ b / others) (omega arith)

@@ -8,20 +8,21 @@ use rly_core::Geometry;
 /// The bytes of a Take's record before its payload.
 const TAKE_BYTES: u64 = 23;
 
-/// The bytes of a head besides what its peers, hops and items take: its gate, generation and
-/// length, and the count of accepted commands.
+/// The bytes of a head besides its peers, hops and items: its gate, generation and length, and the number of accepted
+/// commands.
 const HEAD_BYTES: u64 = 21;
 
 /// The bytes of a peer in a head.
 const PEER_BYTES: u64 = 8;
 
-/// The bytes of a hop in a head, without its items: those of form 1, which is the longer one.
+/// The bytes of a hop in a head without its items, in form 1, which is the longer one.
 const HOP_BYTES: u64 = 71;
 
-/// The bytes of an item in a head whose payload stands in another segment, of form 1 too.
+/// The bytes of an item in a head whose payload lies in another segment, also in form 1.
 const ITEM_BYTES: u64 = 27;
 
-/// The bytes of the largest group where payloads have at most so many: 64 Takes of the longest with its gate, and one gate more.
+/// Returns the bytes of the largest group with payloads of at most `payload` bytes: 64 Takes of that length with the
+/// group's gate, and one gate more.
 pub fn group_room(payload: u64) -> u64
     requires { group_room payload < 2 ^ 64 }
     ensures { result ≡ group_room payload }
@@ -29,7 +30,7 @@ pub fn group_room(payload: u64) -> u64
     64 * (TAKE_BYTES + payload) + 8
 }
 
-/// The least length of the segments of a device, in bytes.
+/// Returns the minimum length of the segments of a device, in bytes.
 pub fn least_length(geometry: &Geometry) -> u64
     requires params { IsWithinLimits geometry.now.params }
     requires segments { IsIn 2 256 geometry.now.segments }
@@ -44,7 +45,7 @@ pub fn least_length(geometry: &Geometry) -> u64
         + group_room(params.payload)
 }
 
-/// Whether the segments are long enough for every head, with the largest group after it.
+/// Returns true iff the segments are long enough for every head, with the largest group after it.
 pub fn fits(geometry: &Geometry) -> bool
     requires params { IsWithinLimits geometry.now.params }
     requires segments { IsIn 2 256 geometry.now.segments }
@@ -53,7 +54,7 @@ pub fn fits(geometry: &Geometry) -> bool
     least_length(geometry) <= geometry.length
 }
 
-/// Whether the largest group has no room after so many bytes of a segment.
+/// Returns true iff the largest group doesn't fit after the first `offset` bytes of a segment.
 pub fn is_due(geometry: &Geometry, offset: u64) -> bool
     requires { offset + group_room geometry.now.params.payload < 2 ^ 64 }
     ensures { IsTrue result ↔ IsDue geometry.now offset }

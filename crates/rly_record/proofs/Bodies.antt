@@ -1,5 +1,4 @@
--- A body that is read is the body that was written, and what was written is read again; and the loops over a body's
--- records.
+-- Reading inverts writing for bodies, in both directions; and the loops over a body's records.
 use Rattle.std.proofs.Common.{◌≡◌, ℕ, zero, suc, ◌+◌, ◌-◌, ◌*◌, ◌^◌, ◌<◌, ◌≤◌, Bool, true, false, cond, ◌||◌, eqb, ltb, List, [], ◌∷◌, ◌++◌, length, get_or, drop, Option, Some, None, Result, Ok, Err, refl, sym, ap, subst, ◌∙◌, append_assoc, arith, drop-cons, inl, inr}
 use Rattle.std.specs.Prelude.{All, IfOk, IsSome, MatchResult, sum_by}
 use Rattle.std.specs.Global.{Vec}
@@ -16,12 +15,12 @@ use Rattle.rly_machine.specs.declared.command.Command.TheVariants.{Take, Pick, R
 use Rattle.rly_record.specs.declared.decode_fault.DecodeFault.{DecodeFault}
 use Rattle.rly_record.specs.declared.decode_fault.DecodeFault.TheVariants.{OutOfMemory, Malformed}
 use Rattle.rly_record.specs.Spelling.{IsRecordable, IsShort, record_of, record_length, body_of, body_length, longest_body, longest_record, HasRecord, HaveBody}
-use Rattle.rly_record.specs.HelpersReading.{◌>>=◌, Fails, Gives, behind, in_front, many_at, field_at, command_at, body_at, whole_body}
+use Rattle.rly_record.specs.HelpersReader.{◌>>=◌, Fails, Gives, rest_after, in_front, many_at, field_at, command_at, body_at, whole_body}
 use Rattle.rly_record.proofs.Fields.{IsBytes, bind_some, bind_is, some_is, Takes, Takes-then, wide_2, number_takes, number_again}
 use Rattle.rly_record.proofs.Readers.{Reads, many_reads}
 use Rattle.rly_record.proofs.Records.{command_takes, command_again, is_refused, length-record_of, one_reading}
 
--- what is read of many records: the commands and the bytes after them
+-- the result of reading many records: the commands and the bytes after them
 abbrev pub AllFound : Type 0
 AllFound = List (Command (List ℕ)) × List ℕ
 
@@ -30,17 +29,17 @@ AllFound = List (Command (List ℕ)) × List ℕ
 command_reads : Reads command_at record_of HasRecord
 command_reads = record { takes = λ bytes command rest fits e. command_takes bytes (command, rest) fits e; again = command_again }
 
--- a test after which a reading goes on
+-- a test after which a parse continues
 guard_goes : {A : Type 0} (b : Bool) (read : Option A) (x : A) → cond b None read ≡ Some x → (b ≡ false) × (read ≡ Some x)
 guard_goes true read x e = absurd cc
 guard_goes false read x e = (refl, e)
 
--- a test that lets a reading end
+-- a test at which a parse may end
 guard_ends : {A : Type 0} (b : Bool) (x y : A) → cond b (Some x) None ≡ Some y → (b ≡ true) × (x ≡ y)
 guard_ends true x y e = (refl, cc)
 guard_ends false x y e = absurd cc
 
--- what is read, where something is
+-- the value of a parse, if it has one
 some_there : {A : Type 0} (read : Option A) → IsSome read → (x : A) × (read ≡ Some x)
 some_there (Some x) is = (x, refl)
 some_there None is = absurd cc
@@ -49,11 +48,11 @@ positive : (n : ℕ) → eqb n 0 ≡ false → 1 ≤ n
 positive zero e = absurd cc
 positive (suc n) e = omega arith
 
--- the test of a body's count, and what follows it
+-- the test of a body's count, and the bytes after it
 abbrev counted : ℕ × List ℕ → Option AllFound
 counted count = cond (eqb count.0 0 || ltb 64 count.0) None (many_at command_at count.0 count.1)
 
--- the test that nothing is left
+-- the test that no bytes are left
 abbrev ended : AllFound → Option (List (Command (List ℕ)))
 ended body = cond (eqb (length body.1) 0) (Some body.0) None
 
@@ -100,44 +99,44 @@ whole_again commands fits =
 pub body_once : (a b : List (Command (List ℕ))) (x y : List ℕ) → HaveBody a → HaveBody b → body_of a ++ x ≡ body_of b ++ y → (a ≡ b) × (x ≡ y)
 body_once a b x y fits_a fits_b same = one_reading body_at (body_of a ++ x) (body_of b ++ y) a b x y same (body_again a x fits_a) (body_again b y fits_b)
 
--- ---- the commands in front
+-- ---- the commands at the front
 
--- where nothing was read, none stand in front
+-- if the parse has no value, the front encodes none
 pub front_fails : (fault : DecodeFault) (read : Option AllFound) → Fails fault read → Fails fault (in_front read)
 front_fails OutOfMemory read fails = tt
 front_fails Malformed read fails = ap in_front fails
 
--- ---- passing over records
+-- ---- skipping records
 
-behind_rest : (command : Command (List ℕ)) (read : Option AllFound) → behind (read >>= λ x. Some (command ∷ x.0, x.1)) ≡ behind read
+behind_rest : (command : Command (List ℕ)) (read : Option AllFound) → rest_after (read >>= λ x. Some (command ∷ x.0, x.1)) ≡ rest_after read
 behind_rest command (Some x) = refl
 behind_rest command None = refl
 
 pub passes_on : (count i : ℕ) (bytes : List ℕ) (command : Command (List ℕ)) (after : List ℕ) (total : Option (List ℕ)) → i < count → command_at bytes ≡ Some (command, after)
-    → behind (many_at command_at (count - i) bytes) ≡ total → behind (many_at command_at (count - (i + 1)) after) ≡ total
+    → rest_after (many_at command_at (count - i) bytes) ≡ total → rest_after (many_at command_at (count - (i + 1)) after) ≡ total
 unfolding many_at
 passes_on count i bytes command after total lt found so_far =
     let k : count - i ≡ suc (count - (i + 1)) = omega arith in
-    let one : behind (many_at command_at (count - i) bytes) ≡ behind (many_at command_at (count - (i + 1)) after) = rw (k, found) (behind_rest command (many_at command_at (count - (i + 1)) after)) in
+    let one : rest_after (many_at command_at (count - i) bytes) ≡ rest_after (many_at command_at (count - (i + 1)) after) = rw (k, found) (behind_rest command (many_at command_at (count - (i + 1)) after)) in
     sym one ∙ so_far
 
 pub passes_none : (fault : DecodeFault) (count i : ℕ) (bytes : List ℕ) (total : Option (List ℕ)) → i < count → Fails fault (command_at bytes)
-    → behind (many_at command_at (count - i) bytes) ≡ total → Fails fault total
+    → rest_after (many_at command_at (count - i) bytes) ≡ total → Fails fault total
 unfolding many_at
 passes_none OutOfMemory count i bytes total lt fails so_far = tt
 passes_none Malformed count i bytes total lt fails so_far =
     let k : count - i ≡ suc (count - (i + 1)) = omega arith in
-    let one : behind (many_at command_at (count - i) bytes) ≡ None = rw (k, fails) refl in
+    let one : rest_after (many_at command_at (count - i) bytes) ≡ None = rw (k, fails) refl in
     sym so_far ∙ one
 
-pub passed : (count i : ℕ) (bytes : List ℕ) (total : Option (List ℕ)) → count ≤ i → behind (many_at command_at (count - i) bytes) ≡ total → total ≡ Some bytes
+pub passed : (count i : ℕ) (bytes : List ℕ) (total : Option (List ℕ)) → count ≤ i → rest_after (many_at command_at (count - i) bytes) ≡ total → total ≡ Some bytes
 unfolding many_at
 passed count i bytes total le so_far =
     let k : count - i ≡ 0 = omega arith in
-    let one : behind (many_at command_at (count - i) bytes) ≡ Some bytes = rw k refl in
+    let one : rest_after (many_at command_at (count - i) bytes) ≡ Some bytes = rw k refl in
     sym so_far ∙ one
 
--- ---- what the public reader answers
+-- ---- the result of the public reader
 
 pub body_has : (bytes : List ℕ) (r : Result (Vec (Command (List ℕ))) DecodeFault) → IsBytes bytes → Gives (λ v. v.items) r (whole_body bytes)
     → IfOk r (λ v. HaveBody v.items)
@@ -154,16 +153,16 @@ pub body_only : (bytes : List ℕ) (r : Result (Vec (Command (List ℕ))) Decode
 body_only bytes (Ok v) commands fits same given = some_is v.items commands (sym given ∙ ap whole_body same ∙ whole_again commands fits)
 body_only bytes (Err e) commands fits same given = is_refused e (whole_body bytes) commands given (ap whole_body same ∙ whole_again commands fits)
 
--- where a body is read one is spelled
+-- if a body is read, the bytes encode one
 pub body_spelled : (bytes : List ℕ) → IsBytes bytes → IsSome (whole_body bytes) → (commands : List (Command (List ℕ))) × HaveBody commands × (bytes ≡ body_of commands)
 body_spelled bytes fits there =
     let commands = some_there (whole_body bytes) there in
     let whole = whole_takes bytes commands.0 fits commands.1 in
     (commands.0, whole.0, whole.1)
 
--- ---- writing records one after the other
+-- ---- writing records in order
 
--- the lengths of the records from a place on
+-- the lengths of the records from an index on
 abbrev pub lengths_from : ℕ → List (Command (List ℕ)) → ℕ
 lengths_from i commands = sum_by (record_length length) (drop i commands)
 
@@ -190,13 +189,13 @@ recordable_short most (Take peer number hop stamp limit payload) recordable = re
 recordable_short most (Pick hop now) recordable = tt
 recordable_short most (Release hop number) recordable = tt
 
--- one that can be recorded where payloads are shorter can be recorded at all
+-- one that can be recorded with a lower payload limit can be recorded
 pub recordable_longest : (most : ℕ) (command : Command (List ℕ)) → most ≤ 8192 → IsRecordable most command → IsRecordable 8192 command
 recordable_longest most (Take peer number hop stamp limit payload) within recordable = (omega (arith, within, recordable.0), recordable.1)
 recordable_longest most (Pick hop now) within recordable = tt
 recordable_longest most (Release hop number) within recordable = tt
 
--- one that has a record has a payload that a record can have
+-- the payload of a command with a record fits one
 pub has_short : (command : Command (List ℕ)) → HasRecord command → IsShort 8192 command
 has_short (Take peer number hop stamp limit payload) has = has.4
 has_short (Pick hop now) has = tt
@@ -206,7 +205,7 @@ pub have_short : (commands : List (Command (List ℕ))) → AllByRecursion HasRe
 have_short [] has = tt
 have_short (command ∷ commands) has = (has_short command has.0, have_short commands has.1)
 
--- what holds of all holds of the one at a place
+-- a property of all holds for the one at an index
 pub recordable_at : (commands : List (Command (List ℕ))) (i : ℕ) (command : Command (List ℕ)) → All (IsRecordable 8192) commands → i < length commands → command ≡ get_or commands i command
     → IsRecordable 8192 command
 recordable_at commands i command recordable lt is = subst (IsRecordable 8192) (sym is) (recordable i command lt)
@@ -214,7 +213,7 @@ recordable_at commands i command recordable lt is = subst (IsRecordable 8192) (s
 pub short_at : (commands : List (Command (List ℕ))) (i : ℕ) (command : Command (List ℕ)) → All (IsRecordable 8192) commands → i < length commands → command ≡ get_or commands i command → IsShort 8192 command
 short_at commands i command recordable lt is = recordable_short 8192 command (recordable_at commands i command recordable lt is)
 
--- one more command that has a record
+-- one more command with a record
 pub has_next : (commands : List (Command (List ℕ))) (i : ℕ) (command : Command (List ℕ)) → i < length commands → command ≡ get_or commands i command → HasRecord command
     → ((k : ℕ) (d : Command (List ℕ)) → k < i → HasRecord (get_or commands k d))
     → (k : ℕ) (d : Command (List ℕ)) → k < i + 1 → HasRecord (get_or commands k d)

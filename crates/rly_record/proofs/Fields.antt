@@ -1,11 +1,11 @@
--- A field that is read is the field that was written, and what was written is read again.
+-- Reading inverts writing for fields, in both directions.
 use Rattle.std.proofs.Common.{◌≡◌, ℕ, zero, suc, ◌+◌, ◌^◌, ◌<◌, ◌≤◌, Bool, true, false, cond, ◌||◌, ltb, List, ◌∷◌, ◌++◌, ◌⊎◌, length, get_or, take, drop, Option, Some, None, refl, sym, ap, subst, ◌∙◌, append_assoc, arith, inl, inr}
 use Rattle.std.proofs.lemmas.Bool.{cases_lt, ltb-false, le-ltb, or_parts, or_from}
 use Rattle.std.proofs.lemmas.List.{take_at, drop_at, take-append-drop, length-append, length-take, get_or-drop, get_or-take, get_or_past}
 use Rattle.std.proofs.lemmas.Nat.{be_bytes_2, be_bytes_4, be_bytes_8}
 use Rattle.byteorder.specs.Endian.{big_bytes, big_number}
 use Rattle.byteorder.specs.Numbers.{big_from-cons, big_from-lt, big_number-reads_back, length-bytes_high_first}
-use Rattle.rly_record.specs.HelpersReading.{◌>>=◌, field_at, payload_at}
+use Rattle.rly_record.specs.HelpersReader.{◌>>=◌, field_at, payload_at}
 
 -- each item is a byte
 abbrev pub IsBytes : List ℕ → Type 0
@@ -26,21 +26,21 @@ IsBytes-take n bytes fits i =
 
 -- ---- steps
 
--- what a step found that was followed by another
+-- the value of a step that was followed by another
 pub bind_some : {A B : Type 0} (r : Option A) (f : A → Option B) (y : B) → (r >>= f) ≡ Some y → (x : A) × (r ≡ Some x) × (f x ≡ Some y)
 bind_some (Some x) f y e = (x, refl, e)
 bind_some None f y e = absurd cc
 
--- a step that finds something, and the step after it
+-- a step with a value, and the step after it
 pub bind_is : {A B : Type 0} (r : Option A) (x : A) (f : A → Option B) (z : Option B) → r ≡ Some x → f x ≡ z → (r >>= f) ≡ z
 bind_is r x f z found next = rw found next
 
--- a test that lets a step find something
+-- a test that lets a step have a value
 pub guard_some : {A : Type 0} (b : Bool) (x y : A) → cond b None (Some x) ≡ Some y → (b ≡ false) × (x ≡ y)
 guard_some true x y e = absurd cc
 guard_some false x y e = (refl, cc)
 
--- which way a test went
+-- the result of a test
 pub chosen : {A : Type 0} (b : Bool) (x y z : A) → cond b x y ≡ z → ((b ≡ true) × (x ≡ z)) ⊎ ((b ≡ false) × (y ≡ z))
 chosen true x y z e = inl (refl, e)
 chosen false x y z e = inr (refl, e)
@@ -48,7 +48,7 @@ chosen false x y z e = inr (refl, e)
 pub some_is : {A : Type 0} (x y : A) → Some x ≡ Some y → x ≡ y
 some_is x y e = cc
 
--- what a reader took from the front
+-- the bytes that a parser took from the front
 pub record Takes (bytes text rest : List ℕ) : Type 0 where
   pub parts : bytes ≡ text ++ rest
   pub rest_fits : IsBytes rest
@@ -62,7 +62,7 @@ Takes-then a x b y c p q = record { parts = p.parts ∙ ap (λ (t : List ℕ). x
 item : (width k : ℕ) (bytes : List ℕ) → k < width → get_or (take width bytes) k 0 ≡ get_or bytes k 0
 item width k bytes lt = get_or-take width bytes k 0 lt
 
--- a number of so many bytes is spelled as it was
+-- a number of a width is encoded by the same bytes
 abbrev pub IsWide : ℕ → Type 0
 IsWide width = (bytes : List ℕ) → IsBytes bytes → width ≤ length bytes → big_bytes width (big_number width bytes) ≡ take width bytes
 
@@ -81,12 +81,12 @@ wide_8 bytes fits long =
     be_bytes_8 (take 8 bytes) (big_number 8 bytes) (omega (arith, length-take 8 bytes)) (IsBytes-take 8 bytes fits)
     (omega (arith, item 8 0 bytes (omega arith), item 8 1 bytes (omega arith), item 8 2 bytes (omega arith), item 8 3 bytes (omega arith), item 8 4 bytes (omega arith), item 8 5 bytes (omega arith), item 8 6 bytes (omega arith), item 8 7 bytes (omega arith)))
 
--- a byte 0 in front
+-- a byte 0 at the front
 IsBytes-zero : (bytes : List ℕ) → IsBytes bytes → IsBytes (0 ∷ bytes)
 IsBytes-zero bytes fits zero = omega arith
 IsBytes-zero bytes fits (suc i) = fits i
 
--- a number is spelled as one of a byte more is that begins with a byte 0
+-- a number is encoded like one of a byte more whose first byte is 0
 wide_below : (width : ℕ) → IsWide (suc width) → IsWide width
 wide_below width wide bytes fits long =
     let moved = big_from-cons 0 width 0 bytes in

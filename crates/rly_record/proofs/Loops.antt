@@ -1,11 +1,11 @@
--- Reading things one after the other.
+-- Reading values in order.
 use Rattle.std.proofs.Common.{◌≡◌, ℕ, suc, ◌+◌, ◌-◌, ◌<◌, ◌≤◌, List, [], ◌∷◌, ◌++◌, Option, Some, None, refl, sym, ap, ◌∙◌, append_assoc, arith}
 use Rattle.std.proofs.lemmas.List.{append-nil}
-use Rattle.rly_record.specs.HelpersReading.{◌>>=◌, Fails, Reader, many_at}
+use Rattle.rly_record.specs.HelpersReader.{◌>>=◌, Fails, Reader, many_at}
 use Rattle.rly_record.specs.declared.decode_fault.DecodeFault.{DecodeFault}
 use Rattle.rly_record.specs.declared.decode_fault.DecodeFault.TheVariants.{OutOfMemory, Malformed}
 
--- what was read before, and what is still read
+-- the values read before, and those still to read
 abbrev pub with_front : {A : Type 0} → List A → Option (List A × List ℕ) → Option (List A × List ℕ)
 with_front front read = read >>= λ x. Some (front ++ x.0, x.1)
 

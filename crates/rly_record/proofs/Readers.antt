@@ -1,12 +1,12 @@
--- Readers take what they spell, and read again what was spelled.
+-- Parsers consume the encoding of their value, and return the value of an encoding.
 use Rattle.std.proofs.Common.{◌≡◌, ℕ, zero, suc, ◌^◌, ◌<◌, List, [], ◌∷◌, ◌++◌, length, Option, Some, refl, sym, ap, subst, ◌∙◌, append_assoc}
 use Rattle.std.specs.List.{AllByRecursion, flat_map}
 use Rattle.std.proofs.lemmas.List.Concat.{flat_map-cons}
 use Rattle.byteorder.specs.Endian.{big_bytes}
-use Rattle.rly_record.specs.HelpersReading.{◌>>=◌, Reader, ◌⊗◌, made_at, many_at, field_at, then_at}
+use Rattle.rly_record.specs.HelpersReader.{◌>>=◌, Reader, ◌⊗◌, made_at, many_at, field_at, then_at}
 use Rattle.rly_record.proofs.Fields.{IsBytes, bind_some, bind_is, some_is, Takes, Takes-then, IsWide, wide_0, wide_1, wide_2, wide_4, wide_5, wide_6, wide_7, wide_8, number_takes, number_again}
 
--- what is read is what was spelled, and what is spelled is read again
+-- reading inverts writing, in both directions
 pub record Reads {A : Type 0} (read : Reader A) (spell : A → List ℕ) (Fits : A → Type 0) : Type 0 where
   pub takes : (bytes : List ℕ) (a : A) (rest : List ℕ) → IsBytes bytes → read bytes ≡ Some (a, rest) → Takes bytes (spell a) rest × Fits a
   pub again : (a : A) (rest : List ℕ) → Fits a → read (spell a ++ rest) ≡ Some (a, rest)
@@ -42,7 +42,7 @@ u56_reads = number_reads 7 wide_7
 pub u64_reads : Reads (field_at 8) (big_bytes 8) (λ n. n < 256 ^ 8)
 u64_reads = number_reads 8 wide_8
 
--- a thing and, after it, another that depends on it
+-- a value and, after it, another that depends on it
 pub then_reads : {A B : Type 0} {one : Reader A} {s : A → List ℕ} {F : A → Type 0} (other : A → Reader B) (t : B → List ℕ) (G : A → B → Type 0)
     → Reads one s F → ((a : A) → Reads (other a) t (G a)) → Reads (then_at one other) (λ (p : A × B). s p.0 ++ t p.1) (λ (p : A × B). F p.0 × G p.0 p.1)
 then_reads {A} {B} {one} {s} {F} other t G p q = record {
@@ -60,12 +60,12 @@ then_reads {A} {B} {one} {s} {F} other t G p q = record {
       (bind_is (other ab.0 tail) (ab.1, rest) (λ (b : B × List ℕ). Some ((ab.0, b.0), b.1)) (Some (ab, rest)) ((q ab.0).again ab.1 rest fits.1) refl);
 }
 
--- a thing and, after it, another
+-- a value and, after it, another
 pub pair_reads : {A B : Type 0} {one : Reader A} {s : A → List ℕ} {F : A → Type 0} {other : Reader B} {t : B → List ℕ} {G : B → Type 0}
     → Reads one s F → Reads other t G → Reads (one ⊗ other) (λ (p : A × B). s p.0 ++ t p.1) (λ (p : A × B). F p.0 × G p.1)
 pair_reads {other = other} {t = t} {G = G} p q = then_reads (λ _. other) t (λ _. G) p (λ _. q)
 
--- what is made of a thing, under a spelling of its own
+-- the image of a value, with an encoding of its own
 pub made_reads : {A B : Type 0} {one : Reader A} {s : A → List ℕ} {F : A → Type 0} (made : A → B) (parts : B → A) (t : B → List ℕ) (G : B → Type 0)
     → Reads one s F → ((a : A) → F a → s a ≡ t (made a)) → ((a : A) → F a → G (made a)) → ((b : B) → G b → F (parts b) × (made (parts b) ≡ b)) → Reads (made_at made one) t G
 made_reads {A} {B} {one} {s} {F} made parts t G p same there back = record {
@@ -81,9 +81,9 @@ made_reads {A} {B} {one} {s} {F} made parts t G p same there back = record {
       ∙ bind_is (one (s (parts b) ++ rest)) (parts b, rest) (λ (a : A × List ℕ). Some (made a.0, a.1)) (Some (b, rest)) (p.again (parts b) rest x.0) (ap (λ (v : B). Some (v, rest)) x.1);
 }
 
--- ---- many things
+-- ---- many values
 
--- so many things that fit
+-- a number of values that fit
 pub record Fit {A : Type 0} (F : A → Type 0) (n : ℕ) (xs : List A) : Type 0 where
   pub count : length xs ≡ n
   pub each : AllByRecursion F xs

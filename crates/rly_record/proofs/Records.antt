@@ -1,4 +1,4 @@
--- A record that is read is the record that was written, and what was written is read again.
+-- Reading inverts writing for records, in both directions.
 use Rattle.std.proofs.Common.{◌≡◌, ℕ, zero, suc, ◌^◌, ◌-◌, ◌<◌, ◌≤◌, false, cond, eqb, List, [], ◌∷◌, ◌++◌, length, drop, Option, Some, None, refl, sym, ap, subst, ◌∙◌, append_assoc, arith, inl, inr}
 use Rattle.std.proofs.lemmas.Bool.{eqb-true, ne_eqb}
 use Rattle.std.proofs.lemmas.List.{drop_at, length-append}
@@ -10,15 +10,15 @@ use Rattle.rly_machine.specs.declared.command.Command.TheVariants.{Take, Pick, R
 use Rattle.rly_record.specs.declared.decode_fault.DecodeFault.{DecodeFault}
 use Rattle.rly_record.specs.declared.decode_fault.DecodeFault.TheVariants.{OutOfMemory, Malformed}
 use Rattle.rly_record.specs.Spelling.{limited_take_of, plain_take_of, record_of, record_length, CarriesBytes, HasRecord}
-use Rattle.rly_record.specs.HelpersReading.{◌⊗◌, Fails, Reader, field_at, limit_at, made_at, payload_at, take_at, pick_at, release_at, limited_take_at, command_at}
+use Rattle.rly_record.specs.HelpersReader.{◌⊗◌, Fails, Reader, field_at, limit_at, made_at, payload_at, take_at, pick_at, release_at, limited_take_at, command_at}
 use Rattle.rly_record.proofs.Fields.{IsBytes, IsBytes-rest, bind_some, bind_is, chosen, guard_some, some_is, Takes, wide_5, number_again, number_takes, payload_takes, payload_again}
 use Rattle.rly_record.proofs.Readers.{Reads, u8_reads, u16_reads, u48_reads, u56_reads, u64_reads, pair_reads}
 
--- what is read of a record: the command and the bytes after it
+-- the result of reading a record: the command and the bytes after it
 abbrev pub Found : Type 0
 Found = Command (List ℕ) × List ℕ
 
--- a record of a kind is read by what reads its fields
+-- a record of a kind is read by the parser of its fields
 fields_take : {A : Type 0} {read : Reader A} {s : A → List ℕ} {F : A → Type 0} (kind : ℕ) (made : A → Command (List ℕ))
     → Reads read s F → ((a : A) → F a → kind ∷ s a ≡ record_of (made a)) → ((a : A) → F a → HasRecord (made a))
     → (bytes : List ℕ) (x : Found) → IsBytes bytes → made_at made read bytes ≡ Some x → Takes (kind ∷ bytes) (record_of x.0) x.1 × HasRecord x.0
@@ -57,7 +57,7 @@ positive : (n : ℕ) → eqb n 0 ≡ false → 0 < n
 positive zero e = absurd cc
 positive (suc n) e = omega arith
 
--- a limit is read that isn't 0
+-- a limit that isn't 0 is read
 limit_takes : (bytes : List ℕ) (limit : ℕ) (rest : List ℕ) → IsBytes bytes → limit_at bytes ≡ Some (limit, rest)
     → Takes bytes (big_bytes 5 limit) rest × ((0 < limit) × (limit < 256 ^ 5))
 unfolding limit_at
@@ -76,7 +76,7 @@ limit_again limit rest fits =
 limit_reads : Reads limit_at (big_bytes 5) (λ n. (0 < n) × (n < 256 ^ 5))
 limit_reads = record { takes = limit_takes; again = limit_again }
 
--- the fields of a Take with a limit: how they are read, how they are spelled, and that they fit
+-- the fields of a Take with a limit: their parser, their encoding, and that they fit
 abbrev limited_fields_at : Reader LimitedFields
 limited_fields_at = field_at 1 ⊗ field_at 6 ⊗ field_at 1 ⊗ field_at 7 ⊗ limit_at ⊗ payload_at
 
@@ -93,7 +93,7 @@ LimitedFit x =
 limited_reads : Reads limited_fields_at limited_text LimitedFit
 limited_reads = pair_reads u8_reads (pair_reads u48_reads (pair_reads u8_reads (pair_reads u56_reads (pair_reads limit_reads payload_reads))))
 
--- a Take with a limit has the record that such a one has
+-- a Take with a limit has the record of that kind
 pub limited_record : (peer : PeerId) (number : ℕ) (hop : HopId) (stamp limit : ℕ) (payload : List ℕ) → 0 < limit
     → limited_take_of peer number hop stamp limit payload ≡ record_of (Take peer number hop stamp limit payload)
 unfolding record_of
@@ -155,14 +155,14 @@ command_again (Release hop number) rest fits = fields_again release_made (pair_r
 pub kept_found : (bytes : List ℕ) (read kept : Command (List ℕ)) (rest : List ℕ) → command_at bytes ≡ Some (read, rest) → kept ≡ read → command_at bytes ≡ Some (kept, rest)
 kept_found bytes read kept rest found same = found ∙ ap (λ (command : Command (List ℕ)). Some (command, rest)) (sym same)
 
--- a payload that is there
+-- a payload that exists
 pub bytes_spelled : (bytes : List ℕ) (x : Found) → IsBytes bytes → command_at bytes ≡ Some x → CarriesBytes x.0
     → (command : Command (List ℕ)) × (rest : List ℕ) × CarriesBytes command × HasRecord command × (bytes ≡ record_of command ++ rest)
 bytes_spelled bytes x fits found is =
     let t = command_takes bytes x fits found in
     (x.0, x.1, is, t.1, t.0.parts)
 
--- two readings of the same bytes are one
+-- two parses of the same bytes are equal
 pub one_reading : {A : Type 0} (read : List ℕ → Option (A × List ℕ)) (s t : List ℕ) (a b : A) (x y : List ℕ) → s ≡ t → read s ≡ Some (a, x) → read t ≡ Some (b, y) → (a ≡ b) × (x ≡ y)
 one_reading {A = A} read s t a b x y same first second =
     let both : (a, x) ≡ (b, y) = some_is (a, x) (b, y) (sym first ∙ ap read same ∙ second) in
@@ -178,7 +178,7 @@ length-record_of (Take peer number hop stamp (suc limit) payload) = omega arith
 length-record_of (Pick hop now) = refl
 length-record_of (Release hop number) = refl
 
--- the front of a Take's record and its payload, where it has no limit and where it has one
+-- the front of a Take's record and its payload, without a limit and with one
 pub plain_front : (peer : PeerId) (number : ℕ) (hop : HopId) (stamp limit size : ℕ) (payload front : List ℕ) → limit ≡ 0 → length payload ≡ size
     → front ≡ 1 ∷ big_bytes 2 peer.0 ++ big_bytes 8 number ++ big_bytes 2 hop.0 ++ big_bytes 8 stamp ++ big_bytes 2 size
     → front ++ payload ≡ record_of (Take peer number hop stamp limit payload)
@@ -203,12 +203,12 @@ pub take_written : (command : Command (List ℕ)) (payload front old middle new 
 take_written command payload front old middle new whole first last =
     last ∙ ap (λ (t : List ℕ). t ++ payload) first ∙ append_assoc old front payload ∙ ap (λ (t : List ℕ). old ++ t) whole
 
--- what a function found fault with was memory alone, where there was something to read
+-- if the parse has a value, the only fault of a function is a failed allocation
 pub is_refused : {A : Type 0} (fault : DecodeFault) (read : Option A) (x : A) → Fails fault read → read ≡ Some x → fault ≡ OutOfMemory
 is_refused OutOfMemory read x fails e = refl
 is_refused Malformed read x fails e = let no : None ≡ Some x = sym fails ∙ e in absurd cc
 
--- the bytes after a front are no more than all
+-- the bytes after a front are at most all
 pub length-behind : (bytes text rest : List ℕ) → bytes ≡ text ++ rest → length rest ≤ length bytes
 length-behind bytes text rest parts =
     let size : length bytes ≡ length (text ++ rest) = ap (λ (t : List ℕ). length t) parts in

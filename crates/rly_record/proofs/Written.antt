@@ -1,4 +1,4 @@
--- Writing things one after the other.
+-- Writing values in order.
 use Rattle.std.proofs.Common.{◌≡◌, ℕ, suc, ◌+◌, ◌<◌, ◌≤◌, List, [], ◌∷◌, ◌++◌, length, get_or, take, drop, sym, ap, ◌∙◌, append_assoc, length-append, arith}
 use Rattle.std.specs.List.{flat_map}
 use Rattle.std.proofs.lemmas.Grind.{flat_map-append}
@@ -6,7 +6,7 @@ use Rattle.std.proofs.lemmas.List.{append-nil, drop_more, take_all}
 use Rattle.std.proofs.lemmas.List.Concat.{flat_map-cons}
 use Rattle.std.proofs.Math.Seq.{take-suc}
 
--- one more thing after those that were written
+-- one more value after those that were written
 pub written_next : {A : Type 0} (spell : A → List ℕ) (xs : List A) (i : ℕ) (x d : A) (old items more : List ℕ) → i < length xs → x ≡ get_or xs i d
     → items ≡ old ++ flat_map spell (take i xs) → more ≡ items ++ spell x → more ≡ old ++ flat_map spell (take (i + 1) xs)
 written_next {A} spell xs i x d old items more lt is so_far written =
@@ -16,7 +16,7 @@ written_next {A} spell xs i x d old items more lt is so_far written =
     ap (flat_map spell) step ∙ flat_map-append spell (take i xs) (x ∷ []) ∙ ap (λ (t : List ℕ). flat_map spell (take i xs) ++ t) (append-nil (spell x)) in
     written ∙ ap (λ (t : List ℕ). t ++ spell x) so_far ∙ append_assoc old (flat_map spell (take i xs)) (spell x) ∙ ap (λ (t : List ℕ). old ++ t) (sym next)
 
--- the length of what is still to be written
+-- the length of the values still to be written
 pub length_next : {A : Type 0} (spell : A → List ℕ) (xs : List A) (i : ℕ) (x d : A) → i < length xs → x ≡ get_or xs i d
     → length (flat_map spell (drop i xs)) ≡ length (spell x) + length (flat_map spell (drop (i + 1) xs))
 length_next {A} spell xs i x d lt is =

@@ -1,3 +1,3 @@
 pub mod HelpersKinds
-pub mod HelpersReading
+pub mod HelpersReader
 pub mod Spelling

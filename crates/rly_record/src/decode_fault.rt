@@ -3,12 +3,12 @@ ghost use Rattle.rly_record.specs.declared.decode_fault.DecodeFault.TheVariants.
 
 use std::alloc::AllocError;
 
-/// Why nothing was read.
+/// The reason for a failed decoding.
 #[derive(Clone, Copy, Debug, PartialEq, Eq)]
 pub enum DecodeFault {
-    /// A growth of memory was refused.
+    /// Memory allocation failed.
     OutOfMemory,
-    /// The bytes spell nothing of the kind that was to be read: no record, no body, or no checkpoint of a sound state.
+    /// The bytes encode no value of the requested kind: no record, no body, or no checkpoint of a sound state.
     Malformed,
 }
 

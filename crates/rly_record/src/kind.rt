@@ -1,7 +1,7 @@
 ghost use Rattle.std.specs.Prelude.{◌≡◌, ◌==◌, ◌||◌, false, IfNone, IfSome};
 ghost use Rattle.rly_record.specs.HelpersKinds.{record_kind_byte};
 
-/// The kinds of record, each under the byte that a record of it begins with.
+/// The kinds of record, by the first byte of a record.
 #[derive(Clone, Copy, PartialEq, Eq)]
 pub(crate) enum Kind {
     Take = 1,
@@ -11,7 +11,7 @@ pub(crate) enum Kind {
 }
 
 impl Kind {
-    /// The kind that the byte says, if it says one.
+    /// Returns the kind with this byte, if there is one.
     pub(crate) fn from_byte(byte: u8) -> Option<Kind>
         ensures known { IfSome result (λ kind. byte ≡ record_kind_byte kind) }
         ensures unknown { IfNone result (((byte == 1) || (byte == 2) || (byte == 3) || (byte == 5)) ≡ false) }
@@ -25,7 +25,7 @@ impl Kind {
         }
     }
 
-    /// The byte that says it.
+    /// Returns the byte of the kind.
     pub(crate) fn byte(self) -> u8
         ensures { result ≡ record_kind_byte self }
     {

@@ -13,13 +13,13 @@ module _ (image : List ℕ) (g : Geometry) (n : ℕ) where
   greater_closed None is closed = below_more (λ t. IsClosed image (segment_place g t)) n is closed
   greater_closed (Some best) is closed = greater_kept is (λ opened. absurd (closed opened))
 
-  -- after an open gate whose generation is as great
+  -- after an open gate whose generation is at least as great
   pub greater_replaced : {best : _} {generation : ℕ} → IsGreatest image g n best → IsReadGate image (segment_place g n) (Some generation)
       → best.generation ≤ generation → IsGreatest image g (n + 1) (record { segment = n; generation = generation; is_shared = eqb generation best.generation })
   greater_replaced {best} {generation} before opened more =
       search (arith, before, before.most, opened, eqb-true generation best.generation, eqb-false generation best.generation)
 
-  -- which gates read closed
+  -- the gates that are closed
   pub closed_more : (flags : List Bool) (gate : Option ℕ) (closed : Bool) → n < length flags → is_some gate ≡ not closed → AreClosed image g n flags
       → IsReadGate image (segment_place g n) gate → AreClosed image g (n + 1) (set flags n closed)
   closed_more flags gate closed within e before read = λ t below. grind (arith, places, before t, get_or-set_same flags n closed false within)
@@ -29,6 +29,6 @@ module _ {image : List ℕ} {g : Geometry} {n : ℕ} {best : _} (is : IsGreatest
   pub last_of_tie : best.is_shared ≡ true → IsLastOfTie image g best.segment
   last_of_tie tied = let other = is.shared tied in search (arith, is, is.most, is.last, other, other.3 ∙ is.generation)
 
-  -- the one that alone has it
+  -- the only one that has it
   pub newest_of : best.is_shared ≡ false → IsNewest image g best.segment
   newest_of single = let alone = is.alone single in search (arith, is, alone)

@@ -1,4 +1,4 @@
--- Which state a head holds.
+-- The state of a head.
 use Rattle.rly_segment.proofs.Common.{◌++◌, ◌+◌, ◌<◌, ◌^◌, ◌∙◌, ◌≡◌, ◌≤◌, All, ap, arith, big_bytes, drop, Geometry, HaveForms, head_spelled, HeadForm}
 use Rattle.rly_segment.proofs.Common.{HoldsHeadOf, IsIn, IsOfForm, IsSound, length, List, mark_of, segment_place, Spelled, spelled_by, stands_back, stands_both}
 use Rattle.rly_segment.proofs.Common.{stands_front, StandsAt, State, state_spelled, sym, take, ℕ}
@@ -10,7 +10,7 @@ use Rattle.rly_segment.specs.declared.heads.Start.{Start}
 abbrev pub start_of : ℕ → ℕ → List ℕ
 start_of generation count = big_bytes 8 generation ++ big_bytes 4 count
 
--- where the body stands
+-- the offset of the body
 behind_start : (g : Geometry) (segment : ℕ) → segment_place g segment + 1 + 12 ≡ segment_place g segment + 13
 behind_start g segment = omega arith
 
@@ -25,7 +25,7 @@ head_parts {len = len} {form} {image} {g} {segment} {generation} {s} holds =
     let start : List ℕ = start_of generation (mark_of form.which + length body) in
     (stands_front image _ start body holds.bytes, rw (behind_start g segment) at (stands_back image _ start body holds.bytes))
 
--- a generation, a form and a length stand after the gate of a segment
+-- a generation, a form and a length follow the gate of a segment
 pub record IsStart (image : List ℕ) (g : Geometry) (segment : ℕ) (start : Start) : Type 0 where
   pub short : g.length < 2 ^ 31
   pub generation_fits : start.generation < 2 ^ 64
@@ -39,7 +39,7 @@ module _ {P : Type 0} {len : P → ℕ} (form : HeadForm → P → List ℕ) {im
   its_start which short holds = search (arith, holds.head, holds.sound.seq, (head_parts holds).0)
 
   module _ {start : Start} (read : IsStart image g segment start) where
-    -- what a head there holds begins with what was read: the field of a length says which form it has
+    -- a head there begins with the fields that were read: the length field gives its form
     pub start_is : (v : HeadForm) {other : ℕ} {s : State P} → HoldsHeadOf len (spelled_by form v) image g segment other s
         → (start.generation ≡ other) × (start.form ≡ v) × (start.length ≡ length (state_spelled len (spelled_by form v) s))
     start_is v holds =
@@ -49,7 +49,7 @@ module _ {P : Type 0} {len : P → ℕ} (form : HeadForm → P → List ℕ) {im
         grind (arith, generation, marked, read.length_fits, its.length_fits)
 
     module _ {body : List ℕ} (is : body ≡ take start.length (drop (segment_place g segment + 13) image)) where
-      -- a head there holds a state that the body spells in the form that was read
+      -- a head there has a state that the body encodes in the form that was read
       pub read_as : (HasForm : HeadForm → P → Type 0) (R : State P → Type 0) → ((s : State P) → IsSound len s → All (HaveForms (HasForm start.form)) s.hops
           → IsOfForm start.form s → s.params ≡ g.params → body ≡ state_spelled len (spelled_by form start.form) s → R s)
           → (v : HeadForm) {other : ℕ} {s : State P} → All (HaveForms (HasForm v)) s.hops → HoldsHeadOf len (spelled_by form v) image g segment other s → R s
@@ -58,7 +58,7 @@ module _ {P : Type 0} {len : P → ℕ} (form : HeadForm → P → List ℕ) {im
           (rw its.1 at only) s holds.sound has holds.plain holds.head.params
           (is ∙ ap (λ k. take k (drop (segment_place g segment + 13) image)) its.2 ∙ (head_parts holds).1)
 
-      -- the head of a state whose checkpoint the body is
+      -- the head of the state with this body as its checkpoint
       pub holds_head : (found : State P) → length body ≡ start.length → body ≡ state_spelled len (spelled_by form start.form) found → found.params ≡ g.params
           → IsSound len found → IsOfForm start.form found → IsIn 1 (found.seq + 1) start.generation → 13 + start.length + group_room g.params.payload ≤ g.length
           → HoldsHeadOf len (spelled_by form start.form) image g segment start.generation found

@@ -3,7 +3,7 @@ use Rattle.rly_segment.proofs.Common.{[], ◌*◌, ◌++◌, ◌+◌, ◌∷◌,
 use Rattle.rly_segment.proofs.Common.{inline_form, IsHeadOf, IsLayout, length, length-append, length-numbers, length-parts, length-replicate, new_head, new_hop}
 use Rattle.rly_segment.proofs.Common.{new_state, Params, refl, replicate, Spelled, State, state_spelled, suc, zero, ℕ}
 
--- how long a head is
+-- the length of a head
 pub length-head : {P : Type 0} (len : P → ℕ) (form : Spelled P) (generation : ℕ) (s : State P)
     → length (head_spelled len form generation s ++ 0 ∷ []) ≡ 13 + length (state_spelled len form s)
 unfolding head_spelled
@@ -14,12 +14,12 @@ unfolding hop_spelled codel_of
 length-hops zero = refl
 length-hops (suc n) = omega (arith, length-hops n)
 
--- how long the checkpoint of the empty state is
+-- the length of the empty state's checkpoint
 pub length-new : (p : Params) → length (checkpoint_of (new_state p)) ≡ 8 + 8 * p.peers + 64 * p.hops
 length-new p =
     omega (arith, length-parts length inline_form (new_state p), length-numbers (replicate p.peers 0), length-replicate {A = ℕ} p.peers 0, length-hops p.hops)
 
--- a head with the gates around it is no longer than its segment
+-- a head with the gates around it is at most as long as its segment
 pub head_room : {P : Type 0} {len : P → ℕ} {form : Spelled P} {g : Geometry} {segment generation : ℕ} {s : State P} → IsHeadOf len form g segment generation s
     → 1 + length (head_spelled len form generation s ++ 0 ∷ []) ≤ g.length
 head_room {len = len} {form} {generation = generation} {s} head = omega (arith, head.room, length-head len form generation s)

@@ -7,7 +7,7 @@ pub mod HeadWriting
 pub mod HeaderFields
 pub mod Replacing
 pub mod Segments
-pub mod Standing
+pub mod BytesAtPlace
 pub mod Looking
 pub mod PlacedHeads
-pub mod Settling
+pub mod HeadAddresses

@@ -1,4 +1,4 @@
--- Headers and heads are read, and nothing else.
+-- Reads of headers and heads, and no other calls.
 use Rattle.rly_segment.proofs.Common.{[], ◌+◌, ◌∷◌, ◌≡◌, arith, Bool, DiskState, head_reads, header_reads, Makes, makes_joined, nat_tests, OnlyReads, Read}
 use Rattle.rly_segment.proofs.Common.{reads_of, Some, true, ℕ}
 

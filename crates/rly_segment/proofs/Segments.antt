@@ -1,7 +1,7 @@
--- Where segments lie.
+-- The ranges of segments.
 use Rattle.rly_segment.proofs.Common.{◌<◌, ◌≤◌, arith, Geometry, IsLayout, segment_end, segment_place, ℕ}
 
--- one after the other
+-- in order, without overlap
 pub segment_behind : (g : Geometry) (t segment : ℕ) → t < segment → segment_end g t ≤ segment_place g segment
 segment_behind g t segment before = grind arith
 

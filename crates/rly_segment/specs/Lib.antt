@@ -6,4 +6,4 @@ pub mod Heads
 pub mod HelpersNewest
 pub mod HelpersWriting
 pub mod PlacedHeads
-pub mod Settling
+pub mod HeadAddresses

@@ -16,26 +16,26 @@ use rly_gate::{OPEN_GATE, fill};
 /// The bytes of a head's gate and generation.
 const GENERATION_END: usize = 9;
 
-/// The newest head, and which segments' gates read closed.
+/// The newest head, and the segments whose gates are closed.
 #[derive(Clone, Copy)]
 pub struct NewestHead {
     /// The segment whose head is the newest.
     pub segment: u64,
-    /// For each segment of the device, whether its gate reads closed.
+    /// For each segment of the device, true iff its gate is closed.
     pub closed: [bool; MAX_SEGMENTS as usize],
 }
 
-/// Why no head is the newest.
+/// The reason that no head is the newest.
 #[derive(Clone, Copy, PartialEq, Eq)]
 pub enum NewestFault {
-    /// No head is open, or several share the greatest generation: the place of the first segment, or
-    /// that of the last of these heads.
+    /// No head is open: the offset of the first segment. Or several share the greatest generation: the offset of the
+    /// last of these.
     Damaged(u64),
     /// A read of the device failed.
     Device,
 }
 
-/// An open head with the greatest generation, the last where several share it.
+/// An open head with the greatest generation, the last one of a tie.
 #[derive(Clone, Copy)]
 pub(crate) struct Greatest {
     pub(crate) segment: u64,
@@ -43,12 +43,13 @@ pub(crate) struct Greatest {
     pub(crate) is_shared: bool,
 }
 
-/// Tells which head is the newest. It reads each segment's gate and generation, and takes no memory.
+/// Returns the newest head. Reads each segment's gate and generation. Allocates nothing.
 pub fn newest<D: Disk>(disk: &mut D, geometry: &Geometry) -> Result<NewestHead, NewestFault>
     requires { IsLayout geometry.now (D.state disk.old).size }
     ensures within { IfOk result (λ newest. newest.segment < geometry.now.segments) }
     ensures read { (D.state disk.old).honest → IsReadNewest (D.state disk.old).seen geometry.now result }
-    ensures trace { Makes D.state (generation_reads geometry.now geometry.now.segments) (reads_newest result) disk.old disk.new }
+    ensures trace { Makes D.state (generation_reads geometry.now geometry.now.segments)
+        (reads_newest result) disk.old disk.new }
 {
     let mut closed = [false; MAX_SEGMENTS as usize];
     let mut found = None;
@@ -72,7 +73,7 @@ pub fn newest<D: Disk>(disk: &mut D, geometry: &Geometry) -> Result<NewestHead, 
     })
 }
 
-/// The generation of the head at a place, or `None` where its gate is closed.
+/// Returns the generation of the head at an offset, or `None` if its gate is closed.
 fn read_gate<D: Disk>(disk: &mut D, place: u64) -> Result<Option<u64>, DiskFault>
     requires { place + GENERATION_END ≤ (D.state disk.old).size }
     ensures read { (D.state disk.old).honest
@@ -88,7 +89,7 @@ fn read_gate<D: Disk>(disk: &mut D, place: u64) -> Result<Option<u64>, DiskFault
     }
 }
 
-/// What was found of the segments up to and with this one, after what was found before it.
+/// Returns the greatest generation up to and including this segment, from the greatest before it.
 fn greater(found: Option<Greatest>, segment: u64, gate: Option<u64>) -> Option<Greatest>
     ensures found { (image : List ℕ) (g : Geometry) → IsFound image g segment found
         → IsReadGate image (segment_place g segment) gate → IsFound image g (segment + 1) result }

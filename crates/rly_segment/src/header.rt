@@ -13,24 +13,24 @@ use rly_disk::Disk;
 use rly_gate::{OPEN_GATE, fill};
 use rly_reclaim::fits;
 
-/// The bytes of the header's gate, text and fields. What stands after them is not read.
+/// The bytes of the header's gate, text and fields. The bytes after them are not read.
 const HEADER_BYTES: usize = 53;
 
 /// `RLYDEV01`.
 pub(crate) const DEVICE_TEXT: [u8; 8] = [0x52, 0x4c, 0x59, 0x44, 0x45, 0x56, 0x30, 0x31];
 
-/// The version of headers that are written.
+/// The version of new headers.
 pub(crate) const VERSION: u16 = 2;
 
-/// The longest payload of a spool whose header is of version 1, which has no field for it.
+/// Maximum payload length of a spool whose header has version 1, which has no field for it.
 const FIRST_PAYLOAD: u64 = 1_200;
 
-/// Why a device's header was not read.
+/// The reason for a failed read of a device's header.
 #[derive(Clone, Copy, PartialEq, Eq)]
 pub enum HeaderFault {
-    /// It is shorter than a header, its gate is closed, or another text or version stands after the gate.
+    /// The device is shorter than a header, its gate is closed, or the text or version after the gate is another.
     NotADevice,
-    /// No device of its size has the geometry that it names.
+    /// The geometry doesn't fit a device of this size.
     BadGeometry,
     /// A read of the device failed.
     Device,
@@ -61,9 +61,10 @@ pub fn read_header<D: Disk>(disk: &mut D) -> Result<Geometry, HeaderFault>
     }
 }
 
-/// Whether the gate is open, and the text and a version that is read stand after it.
+/// Returns true iff the gate is open, and the text and a readable version follow it.
 fn is_device(header: &[u8; HEADER_BYTES]) -> bool
-    ensures { IsTrue result ↔ (IsOpen header.now 0 × StandsAt header.now 1 device_text × IsIn 1 2 (version_in header.now)) }
+    ensures { IsTrue result
+        ↔ (IsOpen header.now 0 × StandsAt header.now 1 device_text × IsIn 1 2 (version_in header.now)) }
 {
     let version = number_in(header, 9, 2);
     header[0] == OPEN_GATE
@@ -72,7 +73,7 @@ fn is_device(header: &[u8; HEADER_BYTES]) -> bool
         && version <= 2
 }
 
-/// The longest payload by the header's version.
+/// Returns the maximum payload length, by the header's version.
 fn longest_in(header: &[u8; HEADER_BYTES]) -> u64
     ensures { result ≡ longest_in header.now }
 {
@@ -82,7 +83,7 @@ fn longest_in(header: &[u8; HEADER_BYTES]) -> u64
     }
 }
 
-/// The geometry that the fields name.
+/// Returns the geometry of the fields.
 fn geometry_in(header: &[u8; HEADER_BYTES]) -> Geometry
     ensures { result ≡ geometry_in header.now }
 {
@@ -103,7 +104,7 @@ fn geometry_in(header: &[u8; HEADER_BYTES]) -> Geometry
     }
 }
 
-/// Whether a device of so many bytes may have a geometry.
+/// Returns true iff a device of `size` bytes can have a geometry.
 pub(crate) fn is_layout(geometry: &Geometry, size: u64) -> bool
     ensures { IsTrue result ↔ IsLayout geometry.now size }
 {

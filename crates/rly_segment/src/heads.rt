@@ -1,8 +1,9 @@
-ghost use Rattle.std.specs.Prelude.{All, ◌≡◌, ◌+◌, ◌<◌, ◌≤◌, ◌^◌, ◌++◌, ◌∷◌, [], ◌↔◌, IfOk, IsTrue, Option, Some, is_ok, length, ℕ};
+ghost use Rattle.std.specs.Prelude.{All, ◌≡◌, ◌+◌, ◌<◌, ◌≤◌, ◌^◌, ◌++◌, ◌∷◌, [], ◌↔◌, IfOk, IsTrue, Option, Some};
+ghost use Rattle.std.specs.Prelude.{is_ok, length, ℕ};
 ghost use Rattle.byteorder.specs.Endian.{big_bytes};
-ghost use Rattle.rly_checkpoint.specs.Checkpoint.{IsOfForm, inline_form_of, spelled_by, state_spelled};
-ghost use Rattle.rly_checkpoint.specs.Forms.{HaveForms};
-ghost use Rattle.rly_checkpoint.specs.Widths.{mark_of};
+ghost use Rattle.rly_segment_checkpoint.specs.Checkpoint.{IsOfForm, inline_form_of, spelled_by, state_spelled};
+ghost use Rattle.rly_segment_checkpoint.specs.Forms.{HaveForms};
+ghost use Rattle.rly_segment_checkpoint.specs.Widths.{mark_of};
 ghost use Rattle.rly_core.specs.Bounds.{IsIn};
 ghost use Rattle.rly_disk.specs.Trace.{Makes, Read};
 ghost use Rattle.rly_gate.specs.Group.{StandsAt};
@@ -12,37 +13,37 @@ ghost use Rattle.rly_segment.specs.Device.{IsLayout};
 ghost use Rattle.rly_segment.specs.Heads.{IsHead, IsHeadOf, first_gate, gate_after, segment_place};
 
 use crate::layout::{number_of_4, number_of_8, segment_place};
-use rly_checkpoint::{DecodeFault, Form, HeadForm, read_state};
 use rly_core::Geometry;
 use rly_disk::{Disk, DiskFault};
 use rly_gate::{ReadFault, fill, read_bytes};
 use rly_machine::{Content, Machine, Payload};
 use rly_reclaim::group_room;
+use rly_segment_checkpoint::{DecodeFault, Form, HeadForm, read_state};
 use std::alloc::Global;
 
-/// The bytes of a head's generation and of its body's length, which stand after its gate.
+/// The bytes of a head's generation and of its body's length, after its gate.
 pub(crate) const START_BYTES: usize = 12;
 
 /// The bytes of a head before its body.
 const BODY_OFFSET: u64 = 13;
 
-/// What a head holds, and the gate after it.
+/// The content of a head, and the offset of the gate after it.
 #[derive(Drop)]
 pub struct Head<C: Content> {
     /// The number of the opening that wrote the head, counted from 1.
     pub generation: u64,
-    /// The form that it was read in.
+    /// The form in which it was read.
     pub form: HeadForm,
-    /// The state, in a machine.
+    /// Its state, in a machine.
     pub machine: Machine<C>,
-    /// The place of the gate of the first group.
+    /// The offset of the gate of the first group.
     pub gate: u64,
 }
 
-/// Why a head was not read. The disk reads as before.
+/// The reason for a failed read of a head. The disk is unchanged.
 #[derive(Clone, Copy, PartialEq, Eq)]
 pub enum HeadFault {
-    /// The memory for the head was refused.
+    /// Memory allocation failed.
     OutOfMemory,
     /// The bytes after the gate are not the head of a sound state.
     Damaged,
@@ -50,7 +51,7 @@ pub enum HeadFault {
     Device,
 }
 
-/// What stands before a head's body.
+/// The fields before a head's body.
 #[derive(Clone, Copy)]
 struct Start {
     generation: u64,
@@ -58,8 +59,8 @@ struct Start {
     length: u32,
 }
 
-/// Reads the state that the head of a segment holds, with every payload inline. It takes no memory beyond the segment's length
-/// and what the state needs.
+/// Reads the state of a segment's head, with every payload inline. Allocates at most the segment's length plus the
+/// memory of the state.
 pub fn read_head<D: Disk>(
     alloc: Global,
     disk: &mut D,
@@ -73,14 +74,15 @@ pub fn read_head<D: Disk>(
     ensures plain { IfOk result (λ head. IsOfForm head.form head.machine.state) }
     ensures read { (D.state disk.old).honest → IsReadHead (D.state disk.old).seen geometry.now segment result }
     ensures trace { (body : Option ℕ)
-        × IfOk result (λ head. body ≡ Some (length (state_spelled length (spelled_by inline_form_of head.form) head.machine.state)))
+        × IfOk result (λ head. body
+        ≡ Some (length (state_spelled length (spelled_by inline_form_of head.form) head.machine.state)))
         × Makes D.state (head_reads (segment_place geometry.now segment) body) (reads_head result) disk.old disk.new }
 {
     read_head_of(alloc, disk, geometry, segment)
 }
 
-/// Reads the state that the head of a segment holds, whose content has forms. It takes no memory
-/// beyond the segment's length and what the state needs.
+/// Reads the state of a segment's head, whose content has forms. Allocates at most the segment's length plus the memory
+/// of the state.
 pub fn read_head_of<D: Disk, C: Form>(
     alloc: Global,
     disk: &mut D,
@@ -90,15 +92,18 @@ pub fn read_head_of<D: Disk, C: Form>(
     requires geometry { IsLayout geometry.now (D.state disk.old).size }
     requires segment { segment < geometry.now.segments }
     ensures head { IfOk result
-        (λ head. IsHeadOf C.length_of (spelled_by C.form head.form) geometry.now segment head.generation head.machine.state) }
+        (λ head. IsHeadOf C.length_of
+        (spelled_by C.form head.form) geometry.now segment head.generation head.machine.state) }
     ensures gate { IfOk result
-        (λ head. head.gate ≡ gate_after C.length_of (spelled_by C.form head.form) geometry.now segment head.machine.state) }
+        (λ head. head.gate
+        ≡ gate_after C.length_of (spelled_by C.form head.form) geometry.now segment head.machine.state) }
     ensures forms { IfOk result (λ head. All (HaveForms (C.has_form head.form)) head.machine.state.hops) }
     ensures plain { IfOk result (λ head. IsOfForm head.form head.machine.state) }
     ensures read { (D.state disk.old).honest
         → IsReadHeadOf C.length_of C.form C.has_form (D.state disk.old).seen geometry.now segment result }
     ensures trace { (body : Option ℕ)
-        × IfOk result (λ head. body ≡ Some (length (state_spelled C.length_of (spelled_by C.form head.form) head.machine.state)))
+        × IfOk result (λ head. body
+        ≡ Some (length (state_spelled C.length_of (spelled_by C.form head.form) head.machine.state)))
         × Makes D.state (head_reads (segment_place geometry.now segment) body) (reads_head result) disk.old disk.new }
 {
     let place = segment_place(geometry, segment);
@@ -151,7 +156,7 @@ fn read_start<D: Disk>(disk: &mut D, place: u64) -> Result<Start, DiskFault>
     })
 }
 
-/// Whether a head may have a generation where so many commands were accepted.
+/// Returns true iff a head with `seq` accepted commands may have this generation.
 fn is_generation(generation: u64, seq: u64) -> bool
     ensures { IsTrue result ↔ IsIn 1 (seq + 1) generation }
 {

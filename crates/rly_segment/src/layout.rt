@@ -6,10 +6,10 @@ ghost use Rattle.rly_segment.specs.Heads.{segment_end, segment_place};
 use byteorder::{BigEndian, ByteOrder};
 use rly_core::Geometry;
 
-/// The place of the first segment.
+/// The device offset of the first segment.
 pub(crate) const FIRST_SEGMENT: u64 = 64;
 
-/// The place of a segment: its gate.
+/// Returns the device offset of a segment, that of its gate.
 pub fn segment_place(geometry: &Geometry, segment: u64) -> u64
     requires segment { segment < 256 }
     requires length { geometry.now.length < 2 ^ 31 }
@@ -18,7 +18,7 @@ pub fn segment_place(geometry: &Geometry, segment: u64) -> u64
     FIRST_SEGMENT + segment * geometry.length
 }
 
-/// The place after a segment.
+/// Returns the device offset after a segment.
 pub fn segment_end(geometry: &Geometry, segment: u64) -> u64
     requires segment { segment < 256 }
     requires length { geometry.now.length < 2 ^ 31 }
@@ -27,7 +27,7 @@ pub fn segment_end(geometry: &Geometry, segment: u64) -> u64
     segment_place(geometry, segment) + geometry.length
 }
 
-/// The number in so many bytes at a place.
+/// Returns the number in `width` bytes at an offset.
 pub(crate) fn number_in(bytes: &[u8], place: usize, width: usize) -> u64
     requires within { place + width ≤ length bytes.now }
     requires least { 1 ≤ width }
@@ -37,7 +37,7 @@ pub(crate) fn number_in(bytes: &[u8], place: usize, width: usize) -> u64
     BigEndian::read_uint(&bytes[place..place + width], width)
 }
 
-/// The number that 8 bytes spell.
+/// Decodes a number of 8 bytes.
 pub(crate) fn number_of_8(bytes: &[u8]) -> u64
     requires { length bytes.now ≡ 8 }
     ensures { big_bytes 8 result ≡ bytes.now }
@@ -45,7 +45,7 @@ pub(crate) fn number_of_8(bytes: &[u8]) -> u64
     BigEndian::read_u64(bytes)
 }
 
-/// The number that 4 bytes spell.
+/// Decodes a number of 4 bytes.
 pub(crate) fn number_of_4(bytes: &[u8]) -> u32
     requires { length bytes.now ≡ 4 }
     ensures { big_bytes 4 result ≡ bytes.now }

@@ -3,10 +3,10 @@ use Rattle.std.proofs.Common.{◌≡◌, ℕ, ◌+◌, List, [], ◌∷◌, ◌+
 use Rattle.std.proofs.lemmas.List.{length-append, length-map}
 use Rattle.std.proofs.lemmas.List.FromFn.{length-map-range_with_len, map-range_with_len_more}
 use Rattle.rly_station.specs.declared.plan_keys.KeyedWorker.{KeyedWorker}
-use Rattle.rly_station.specs.Keys.{AreKeysOf, assigned, key_file_of}
-use Rattle.rly_station.specs.Duties.{Duty, duties, duty_of, receivers, senders, workers_of}
+use Rattle.rly_station.specs.Keys.{AreKeysOf, worker_and_file, key_file_of}
+use Rattle.rly_station.specs.Workers.{receivers, senders, workers_of}
 use Rattle.rly_plan.specs.ContactPlan.{ContactPlan}
-use Rattle.rly_post.specs.declared.turn.Worker.TheVariants as worker
+use Rattle.rly_link.specs.declared.turn.Worker.TheVariants as worker
 
 -- a receiver more
 pub receivers_more : (count : ℕ) → receivers (count + 1) ≡ receivers count ++ worker.Receiver (record { 0 = count + 1 }) ∷ []
@@ -26,10 +26,4 @@ workers_count plan =
 -- and as many links, whose keys are those of the plan
 pub links_count : (plan : ContactPlan) (links : List KeyedWorker) → AreKeysOf plan links → length links ≡ length (workers_of plan)
 links_count plan links e =
-    sym (length-map links assigned) ∙ ap length e ∙ length-map (workers_of plan) (λ w. (w, key_file_of plan w))
-
--- and as many posts
-pub posts_count : {A : Type 0} (f : A → Duty) (posts : List A) (plan : ContactPlan) (links : List KeyedWorker) (longest turns : ℕ) → AreKeysOf plan links → map f posts ≡ duties plan links longest turns
-    → length posts ≡ length plan.peers + length plan.hops
-posts_count f posts plan links longest turns keys e =
-    sym (length-map posts f) ∙ ap length e ∙ length-map links (duty_of plan longest turns) ∙ links_count plan links keys ∙ workers_count plan
+    sym (length-map links worker_and_file) ∙ ap length e ∙ length-map (workers_of plan) (λ w. (w, key_file_of plan w))

@@ -1,3 +1,1 @@
 pub mod CountedWorkers
-pub mod Turns
-pub mod Sending

@@ -1,8 +1,6 @@
 pub mod Faults
-pub mod WallClock
+pub mod Moment
 pub mod NamedKey
-pub mod Neighbour
 pub mod Warnings
-pub mod Keeping
-pub mod Duties
+pub mod Workers
 pub mod Keys

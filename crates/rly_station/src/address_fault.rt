@@ -1,22 +1,22 @@
 use crate::file_fault::SystemWord;
 use crate::worker_name::WorkerName;
-use rly_post::Worker;
+use rly_link::Worker;
 use std::fmt;
 use std::fmt::{Display, Formatter};
 use thiserror::Error;
 
-/// Which address of a link.
+/// One of the two addresses of a link.
 #[derive(Clone, Copy, Debug, PartialEq, Eq, Error)]
 pub enum End {
-    /// The one that it receives at.
+    /// The one on which it receives.
     #[error("listen")]
     Listen,
-    /// The one that it sends to.
+    /// The one to which it sends.
     #[error("remote")]
     Remote,
 }
 
-/// An address of a link that the system refused, and the system's word.
+/// An address of a link that the system refused, with the system's error.
 #[derive(Clone, Copy, Debug, Error)]
 #[error("{end}: {word}")]
 pub struct EndFault {
@@ -24,7 +24,8 @@ pub struct EndFault {
     pub word: SystemWord,
 }
 
-/// A link that the system refused: whose it is, at which address, and the system's word; displays as a line about it.
+/// A link that the system refused: its worker, the address, and the system's error; displays as a line for standard
+/// error.
 #[derive(Debug, Drop)]
 pub struct AddressFault {
     pub worker: Worker,

@@ -1,4 +1,4 @@
-//! What is said on standard error while a station serves.
+//! Log lines on standard error while a station serves.
 
 use crate::warning::Warning;
 use libc::net::{POLLOUT, poll};
@@ -8,20 +8,20 @@ use std::sync::Arc;
 use std::sync::atomic::{AtomicU64, Ordering};
 use std::thread;
 
-/// The number of standard error.
+/// The file descriptor of standard error.
 const STANDARD_ERROR: i32 = 2;
 
-/// Nobody says anything.
+/// No line is being written.
 const FREE: u64 = 0;
 
-/// Somebody says something.
+/// A line is being written.
 const BUSY: u64 = 1;
 
-/// How often one looks whether another is done with its line.
+/// The number of times that a writer checks whether another is done with its line.
 const LOOKS: u64 = 10_000;
 
-/// The lines of the workers and of the device on standard error, one at a time. No line ends or holds up who says it: one that
-/// standard error doesn't take at once, since nobody reads it, is left out.
+/// Log lines of the workers and of the device on standard error, one at a time. A line never ends or blocks its
+/// writer: it is dropped if standard error doesn't accept it at once, since nobody reads it.
 #[derive(Drop)]
 pub struct ErrorLines {
     alloc: Global,
@@ -29,7 +29,7 @@ pub struct ErrorLines {
 }
 
 impl ErrorLines {
-    /// A station's lines, of which each worker and the device has a share.
+    /// The log of a station, shared by its workers and the device.
     pub fn shared(alloc: Global) -> Result<Arc<ErrorLines, Global>, AllocError> {
         let lines = ErrorLines {
             alloc,
@@ -38,7 +38,7 @@ impl ErrorLines {
         Ok(Arc::new(alloc, lines)?)
     }
 
-    /// Says a line, if standard error takes it at once.
+    /// Logs a line, if standard error accepts it at once.
     pub(crate) fn say(&self, warning: &Warning) {
         let Ok(line) = format!(in self.alloc; "{warning}\n") else {
             return;
@@ -49,7 +49,7 @@ impl ErrorLines {
         }
     }
 
-    /// Waits until nobody else says anything. Whether that came: a line takes no time.
+    /// Waits until no other line is being written, and returns whether that came: a line takes no time.
     fn begin(&self) -> bool {
         for _look in 0..LOOKS {
             if self.state.swap(BUSY, Ordering::SeqCst) == FREE {
@@ -61,8 +61,8 @@ impl ErrorLines {
     }
 }
 
-/// Writes to standard error in one call, if there is room for it and somebody reads. What isn't taken is left out. Where the
-/// reader goes just then, no signal ends the program.
+/// Writes to standard error in one call, if there is room for it and a reader. The rest is dropped. If the reader
+/// goes away just then, no signal ends the program.
 fn write_at_once(line: &[u8]) {
     let mut asked = [pollfd {
         fd: STANDARD_ERROR,

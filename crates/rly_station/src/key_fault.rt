@@ -1,21 +1,21 @@
 use crate::file_fault::SystemWord;
 use crate::worker_name::WorkerName;
-use rly_post::Worker;
+use rly_link::Worker;
 use std::fmt::{Display, Formatter};
 use std::{fmt, io};
 use thiserror::Error;
 
-/// Why a file holds no key that a link may have; displays as words.
+/// The reason why a file is no valid key; displays as words.
 #[derive(Clone, Copy, Debug, Error)]
 pub enum KeyWord {
-    /// The system refused it.
+    /// The system's error.
     #[error("{0}")]
     System(SystemWord),
-    /// Its text is none of a key.
-    #[error("it isn't one line of 64 hex digits, or two")]
+    /// Its text is not a key.
+    #[error("not one or two lines of 64 hex digits")]
     Form,
-    /// Others than its owner may read it, write it or run it: its permissions are these.
-    #[error("it has permissions {0:o} for others than its owner")]
+    /// Others than its owner may read, write or execute it: its permissions.
+    #[error("permissions {0:o} for group or others; must be 0")]
     Shared(u32),
 }
 
@@ -25,7 +25,8 @@ impl From<io::Error> for KeyWord {
     }
 }
 
-/// A file that holds no key for a link: whose link it is, the file's path, and why; displays as a line about it.
+/// A file that is no valid key for a link: the link's worker, the file's path, and the reason; displays as a line
+/// for standard error.
 #[derive(Debug, Drop)]
 pub struct KeyFault {
     pub worker: Worker,

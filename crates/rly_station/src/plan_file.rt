@@ -3,7 +3,7 @@
 ghost use Rattle.std.specs.Prelude.{◌≡◌, ◌⊎◌, IfErr, IfOk, Option};
 ghost use Rattle.rly_core.specs.declared.refusal.Refusal.{Refusal as ARefusal};
 ghost use Rattle.rly_plan.specs.Sound.{IsSoundPlan};
-ghost use Rattle.rly_plan_draft.specs.declared.place.Place.{Place as APlace};
+ghost use Rattle.rly_plan_syntax.specs.declared.key_path.KeyPath.{KeyPath as AKeyPath};
 ghost use Rattle.rly_station.specs.declared.file_fault.SystemWord.{SystemWord as AWord};
 ghost use Rattle.rly_station.specs.declared.serve_fault.ServeFault.TheVariants as fault;
 ghost use Rattle.rly_station.specs.Faults.{cause_at};
@@ -16,15 +16,15 @@ use std::fs;
 use std::fs::{File, Files};
 use std::io::ErrorKind;
 
-/// Reads a plan from a file. Where the file can't be read or isn't UTF-8, the answer is `Plan`; a plan that is refused is
-/// told with the place of its first fault.
+/// Reads a plan from a file. Returns `Plan` if the file can't be read or isn't UTF-8; a refused plan comes with the
+/// location of its first fault.
 pub fn read_plan<H: AllocGlobal + Files<File = File>>(
     rt: &H,
     path: &str,
 ) -> Result<Plan, ServeFault>
     ensures sound { IfOk result (λ plan. IsSoundPlan plan) }
     ensures fault { IfErr result (λ f. ((word : AWord) × (f ≡ fault.Plan word))
-        ⊎ ((refusal : ARefusal) × (place : Option APlace) × (f ≡ fault.Refused refusal (cause_at place)))) }
+        ⊎ ((refusal : ARefusal) × (place : Option AKeyPath) × (f ≡ fault.Refused refusal (cause_at place)))) }
 {
     match fs::read_to_string(rt, path) {
         Ok(text) => {

@@ -1,28 +1,28 @@
-//! The keys of a plan's links, and the files that they are read from.
+//! The keys of a plan's links, and their files.
 
 ghost use Rattle.std.specs.Prelude.{◌≡◌, IfOk, option_copied, string_bytes};
-ghost use Rattle.rly_station.specs.Keys.{AreKeysOf, assigned, key_file_of, key_in, path_beside};
+ghost use Rattle.rly_station.specs.Keys.{AreKeysOf, worker_and_file, key_file_of, key_in, path_beside};
 ghost use Rattle.rly_plan.specs.Sound.{IsSoundPlan};
 
 use crate::key_fault::{KeyFault, KeyWord};
 use crate::serve_fault::ServeFault;
 use crate::workers::workers_of;
+use rly_link::Worker;
+use rly_link_auth::{Key, LINE_BYTES};
 use rly_plan::{KeyFile, Plan};
-use rly_post::Worker;
-use rly_tag::{Key, LINE_BYTES};
 use std::alloc::{AllocError, Global};
 use std::fs::{File, Files};
 use std::marker::Model;
 use std::os::unix::fs::{FileExt, PermissionsExt};
 use std::path::Path;
 
-/// The most bytes of a file that are read: one more than the longest file of a key has.
+/// The number of bytes read of a file: one more than the longest key file has.
 const MOST: usize = 2 * LINE_BYTES + 1;
 
-/// The permissions of others than a file's owner.
+/// The permission bits of others than a file's owner.
 const OTHERS: u32 = 0o077;
 
-/// The key of a link, and the file that the plan names for it.
+/// The key of a link, and the file in which the plan names it.
 #[derive(Drop)]
 pub struct NamedKey<'a> {
     file: &'a KeyFile,
@@ -39,26 +39,26 @@ impl<'a> Model for NamedKey<'a> {
 
 impl<'a> NamedKey<'a> {
     /// The key.
-    pub(crate) fn into_key(self) -> Key
+    pub fn into_key(self) -> Key
         ensures { result ≡ self.entry.keys }
     {
         self.key
     }
 }
 
-/// A worker of a plan, and the key of its link, if that has one.
+/// A worker of a plan, and the key of its link, if it has one.
 #[derive(Drop)]
 pub struct KeyedWorker<'a> {
-    /// Which it is.
+    /// Its identity.
     pub worker: Worker,
-    /// The key, where the plan names a file.
+    /// The key, if the plan names a file.
     pub key: Option<NamedKey<'a>>,
 }
 
 /// The keys of a plan's links.
 #[derive(Drop)]
 pub struct PlanKeys<'a> {
-    pub(crate) links: Vec<KeyedWorker<'a>>,
+    links: Vec<KeyedWorker<'a>>,
 }
 
 impl<'a> Model for PlanKeys<'a> {
@@ -70,20 +70,29 @@ impl<'a> Model for PlanKeys<'a> {
     ghost view = { λ k. k.links.items };
 }
 
-/// Reads the keys of a plan's links from the files that the plan names. Their paths begin at the folder of the plan's own
-/// file, which is at `path`.
+impl<'a> PlanKeys<'a> {
+    /// The workers, each with the key of its link.
+    pub fn into_links(self) -> Vec<KeyedWorker<'a>>
+        ensures { result.items ≡ self.entry }
+    {
+        self.links
+    }
+}
+
+/// Reads the keys of a plan's links from the files that the plan names. Their paths begin at the folder of the plan's
+/// own file, which is at `path`.
 pub fn read_keys<'a, H: AllocGlobal + Files<File = File>>(
     rt: &H,
     plan: &'a Plan,
     path: &str,
 ) -> Result<PlanKeys<'a>, ServeFault>
     requires sound { IsSoundPlan plan.now }
-    // The link of each worker has the key of the file that the plan names for it, and no key where it names none.
+    // The link of each worker has the key of the file that the plan names for it, and no key if it names none.
     ensures keys { IfOk result (λ keys. AreKeysOf plan.now keys) }
 {
     let mut links = Vec::new(rt.alloc());
     for worker in workers_of(rt.alloc(), plan)? {
-        let link = keyed(rt, plan, worker, path)?;
+        let link = worker_with_key(rt, plan, worker, path)?;
         if links.push(link).is_err() {
             return Err(AllocError.into());
         }
@@ -92,13 +101,13 @@ pub fn read_keys<'a, H: AllocGlobal + Files<File = File>>(
 }
 
 /// A worker, and the key of its link.
-fn keyed<'a, H: AllocGlobal + Files<File = File>>(
+fn worker_with_key<'a, H: AllocGlobal + Files<File = File>>(
     rt: &H,
     plan: &'a Plan,
     worker: Worker,
     path: &str,
 ) -> Result<KeyedWorker<'a>, ServeFault>
-    ensures { IfOk result (λ link. assigned link ≡ (worker, key_file_of plan.now worker)) }
+    ensures { IfOk result (λ link. worker_and_file link ≡ (worker, key_file_of plan.now worker)) }
 {
     let key = match key_file_of(plan, worker) {
         Some(file) => Some(read_key(rt, worker, file, path)?),
@@ -107,7 +116,7 @@ fn keyed<'a, H: AllocGlobal + Files<File = File>>(
     Ok(KeyedWorker { worker, key })
 }
 
-/// The file of the key of a worker's link, if the plan names one.
+/// The key file of a worker's link, if the plan names one.
 fn key_file_of(plan: &Plan, worker: Worker) -> Option<&KeyFile>
     ensures { option_copied result ≡ key_file_of plan.now worker }
 {
@@ -118,7 +127,7 @@ fn key_file_of(plan: &Plan, worker: Worker) -> Option<&KeyFile>
     neighbour?.key.as_ref()
 }
 
-/// The key in a file that a plan names.
+/// Reads the key in a file that a plan names.
 fn read_key<'a, H: AllocGlobal + Files<File = File>>(
     rt: &H,
     worker: Worker,
@@ -134,7 +143,7 @@ fn read_key<'a, H: AllocGlobal + Files<File = File>>(
     }
 }
 
-/// The path of a key's file, by the path of the plan and the one that the plan names.
+/// The path of a key file, from the path of the plan and the one that the plan names.
 fn path_beside(alloc: Global, plan: &str, named: &str) -> Result<String, AllocError>
     ensures { IfOk result (λ path. string_bytes path ≡ path_beside plan.now named.now) }
 {
@@ -142,7 +151,7 @@ fn path_beside(alloc: Global, plan: &str, named: &str) -> Result<String, AllocEr
     Ok(folder.join(alloc, named)?.into_string())
 }
 
-/// The key in a file.
+/// Reads the key in a file.
 fn key_in_file<H: Files<File = File>>(files: &H, path: &str) -> Result<Key, KeyWord> {
     let file = File::open(files, path)?;
     let found = file.metadata()?;
@@ -152,8 +161,8 @@ fn key_in_file<H: Files<File = File>>(files: &H, path: &str) -> Result<Key, KeyW
     key_in(found.permissions().mode(), &text[..length])
 }
 
-/// The key that a file holds which has these permissions and this text: none where others than its owner may read it, write
-/// it or run it.
+/// The key in a file with these permissions and this text: refused if others than its owner may read, write or
+/// execute it.
 pub fn key_in(mode: u32, text: &[u8]) -> Result<Key, KeyWord>
     ensures { result ≡ key_in mode text.now }
 {

@@ -6,7 +6,7 @@ use rly_plan::PlanFault;
 use std::alloc::AllocError;
 use thiserror::Error;
 
-/// Why a relay wasn't started, or didn't end well; displays as the lines for standard error.
+/// The error of a relay that wasn't started, or didn't end well; displays as the lines for standard error.
 #[derive(Debug, Drop, Error)]
 pub enum ServeFault {
     /// The plan can't be read, or isn't UTF-8.
@@ -15,15 +15,15 @@ pub enum ServeFault {
     /// A socket refused an address of a link.
     #[error("rly: link failed\nrly: {0}")]
     Link(AddressFault),
-    /// A file holds no key that a link may have.
+    /// A file is no valid key for a link.
     #[error("rly: key failed\nrly: {0}")]
     Key(KeyFault),
-    /// There was no thread for a worker.
+    /// There was no thread for a worker or the reporter.
     #[error("rly: worker failed")]
     Worker,
-    /// Standard error failed, so that what is served wasn't told.
+    /// Standard error failed, so the startup or end line was not written.
     #[error("rly: output failed")]
-    Untold,
+    Unreported,
     /// The plan or the device was refused, or the journal ended broken.
     #[error("{0}{1}")]
     Refused(Refusal, Cause),
@@ -33,12 +33,12 @@ impl From<AllocError> for ServeFault {
     ghost use Rattle.std.specs.Prelude.{◌≡◌};
     ghost use Rattle.rly_core.specs.declared.refusal.Refusal.TheVariants.{OutOfMemory};
     ghost use Rattle.rly_station.specs.declared.serve_fault.ServeFault.TheVariants.{Refused};
-    ghost use Rattle.rly_station.specs.declared.file_fault.Cause.TheVariants.{Told};
+    ghost use Rattle.rly_station.specs.declared.file_fault.Cause.TheVariants.{NoCause};
 
-    ghost from_gives = { λ _ fault. fault ≡ Refused OutOfMemory Told };
+    ghost from_gives = { λ _ fault. fault ≡ Refused OutOfMemory NoCause };
 
     fn from(_refused: AllocError) -> ServeFault {
-        ServeFault::Refused(Refusal::OutOfMemory, Cause::Told)
+        ServeFault::Refused(Refusal::OutOfMemory, Cause::NoCause)
     }
 }
 
@@ -52,7 +52,7 @@ impl From<PlanFault> for ServeFault {
     fn from(plan: PlanFault) -> ServeFault {
         match plan.place {
             Some(place) => ServeFault::Refused(plan.refusal, Cause::At(place)),
-            None => ServeFault::Refused(plan.refusal, Cause::Told),
+            None => ServeFault::Refused(plan.refusal, Cause::NoCause),
         }
     }
 }

@@ -1,19 +1,19 @@
-//! What a station tells of while it serves.
+//! The warnings of a serving station.
 
 use crate::file_fault::SystemWord;
 use crate::worker_name::WorkerName;
-use rly_post::Worker;
+use rly_link::Worker;
 use std::fmt;
 use std::fmt::{Display, Formatter};
 
-/// How far the wall clock was set, in microseconds; displays as what is told of it.
+/// A step of the wall clock, in microseconds; displays as its text in the log.
 #[derive(Clone, Copy, PartialEq, Eq)]
-pub(crate) enum Step {
-    Ahead(u128),
+pub enum ClockStep {
+    Forward(u128),
     Back(u128),
 }
 
-impl Display for Step {
+impl Display for ClockStep {
     ghost use Rattle.std.specs.Prelude.{Some};
     ghost use Rattle.rly_station.specs.Warnings.{step_text};
 
@@ -21,15 +21,15 @@ impl Display for Step {
 
     fn fmt<W: fmt::Write>(&self, f: &mut Formatter<W>) -> fmt::Result {
         match self {
-            Step::Ahead(by) => write!(f, "the clock was set ahead by {} ms", by / 1_000),
-            Step::Back(by) => write!(f, "the clock was set back by {} ms", by / 1_000),
+            ClockStep::Forward(by) => write!(f, "the clock was set ahead by {} ms", by / 1_000),
+            ClockStep::Back(by) => write!(f, "the clock was set back by {} ms", by / 1_000),
         }
     }
 }
 
-/// The calls of the system whose failures are told; displays as whose they are, and which.
+/// The calls of the system whose failures are logged; displays as the owner and the call.
 #[derive(Clone, Copy, PartialEq, Eq)]
-pub(crate) enum SystemCall {
+pub enum SystemCall {
     /// The sends of a worker's link.
     Send(Worker),
     /// The reads of the device.
@@ -44,28 +44,28 @@ impl Display for SystemCall {
 
     fn fmt<W: fmt::Write>(&self, f: &mut Formatter<W>) -> fmt::Result {
         match self {
-            SystemCall::Send(worker) => write!(f, "{}: failed send", WorkerName(*worker)),
-            SystemCall::Read => write!(f, "device: failed read"),
+            SystemCall::Send(worker) => write!(f, "{}: send failed", WorkerName(*worker)),
+            SystemCall::Read => write!(f, "device: read failed"),
         }
     }
 }
 
-/// What is told while a station serves; displays as the line for standard error, without its end.
+/// A warning of a serving station; displays as the line for standard error, without its newline.
 #[derive(Clone, Copy)]
-pub(crate) enum Warning {
-    /// A call failed: which it is, how many did with it, and what the system said.
+pub enum Warning {
+    /// A call failed: the call, the number of failures so far, and the system's error.
     FailedCall {
         call: SystemCall,
         count: u64,
         word: SystemWord,
     },
-    /// A packet had no right tag: whose link it is, and how many had none with it.
+    /// A packet had a wrong tag: the link's worker, and the number of such packets so far.
     WrongTag {
         worker: Worker,
         count: u64,
     },
     /// The wall clock was set.
-    ClockSet(Step),
+    ClockSet(ClockStep),
 }
 
 impl Display for Warning {
@@ -76,11 +76,11 @@ impl Display for Warning {
     fn fmt<W: fmt::Write>(&self, f: &mut Formatter<W>) -> fmt::Result {
         match self {
             Warning::FailedCall { call, count, word } => {
-                write!(f, "rly: {call} {count}: {word}")
+                write!(f, "rly: {call} ({count} so far): {word}")
             }
             Warning::WrongTag { worker, count } => write!(
                 f,
-                "rly: {}: packet {count} without a right tag",
+                "rly: {}: wrong tag ({count} so far)",
                 WorkerName(*worker)
             ),
             Warning::ClockSet(step) => write!(f, "rly: {step}"),

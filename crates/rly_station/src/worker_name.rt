@@ -1,8 +1,8 @@
-use rly_post::Worker;
+use rly_link::Worker;
 use std::fmt;
 use std::fmt::{Display, Formatter};
 
-/// Whose link it is; displays as `peer 1` or `hop 1`.
+/// The owner of a link; displays as `peer 1` or `hop 1`.
 #[derive(Clone, Copy, PartialEq, Eq)]
 pub struct WorkerName(pub Worker);
 

@@ -2,11 +2,11 @@
 
 ghost use Rattle.std.specs.Prelude.{◌≡◌, ◌++◌, IfOk, OnOk};
 ghost use Rattle.rly_plan.specs.Sound.{IsSoundPlan};
-ghost use Rattle.rly_station.specs.Duties.{receivers, senders, workers_of};
+ghost use Rattle.rly_station.specs.Workers.{receivers, senders, workers_of};
 
 use rly_core::{HopId, PeerId};
+use rly_link::Worker;
 use rly_plan::Plan;
-use rly_post::Worker;
 use std::alloc::{AllocError, Global};
 
 /// A receiver for each peer of a plan, and a sender for each hop.
@@ -20,7 +20,7 @@ pub(crate) fn workers_of(alloc: Global, plan: &Plan) -> Result<Vec<Worker>, Allo
     Ok(workers)
 }
 
-/// Adds the receivers of so many peers.
+/// Adds the receivers of this many peers.
 fn add_receivers(workers: &mut Vec<Worker>, count: u16) -> Result<(), AllocError>
     ensures { OnOk result (workers.new.items ≡ workers.old.items ++ receivers count) }
 {
@@ -30,7 +30,7 @@ fn add_receivers(workers: &mut Vec<Worker>, count: u16) -> Result<(), AllocError
     Ok(())
 }
 
-/// Adds the senders to so many hops.
+/// Adds the senders to this many hops.
 fn add_senders(workers: &mut Vec<Worker>, count: u16) -> Result<(), AllocError>
     ensures { OnOk result (workers.new.items ≡ workers.old.items ++ senders count) }
 {

@@ -1,3 +1,4 @@
 pub mod Threads
 pub mod Kept
 pub mod Seating
+pub mod RelayEnds

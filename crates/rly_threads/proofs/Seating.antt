@@ -1,4 +1,4 @@
--- What a seat put is what was asked of it, call by call.
+-- A seat's submitted calls are its asks, call by call.
 use Rattle.std.proofs.Common.{◌≡◌, ◌∙◌, ℕ, ◌+◌, true, List, [], ◌∷◌, ◌++◌, Option, None, Some, ap, append_assoc, append-nil, ⊎_elim, length, map, refl, subst, sym}
 use Rattle.std.proofs.lemmas.Grind.{flat_map-append}
 use Rattle.std.proofs.lemmas.List.{map-append}
@@ -15,7 +15,7 @@ use Rattle.rly_machine.specs.declared.call.Call.{Call}
 use Rattle.rly_machine.specs.declared.call.SeatId.{SeatId}
 use Rattle.rly_machine.specs.declared.command.Ask.{Ask}
 use Rattle.rly_machine.specs.History.{Entry}
-use Rattle.rly_workers.specs.Asking.{Asked, HasPut, answers_of, batch_outcome, put_of}
+use Rattle.rly_threads_workers.specs.DeskExchanges.{Asked, HasPut, answers_of, batch_outcome, put_of}
 
 abbrev asks_in : List Call → List Ask
 asks_in calls = map (λ (call : Call). call.ask) calls
@@ -23,12 +23,12 @@ asks_in calls = map (λ (call : Call). call.ask) calls
 abbrev answers_in : List Entry → List Answer
 answers_in entries = map (λ (entry : Entry). entry.1) entries
 
--- the calls that put asks have these asks
+-- the calls that submit asks have these asks
 asks_after : (seat : SeatId) (last : ℕ) (asks : List Ask) → asks_in (calls_after seat last asks) ≡ asks
 asks_after seat last [] = refl
 asks_after seat last (ask ∷ asks) = ap (λ l. ask ∷ l) (asks_after seat (last + 1) asks)
 
--- what is known of a seat before and after one batch
+-- the facts of a seat before and after one batch
 record HasMoved (before : Caller) (asked : Asked) (after : Caller) : Type 0 where
   pub of : after.of ≡ before.of
   pub replies : after.replies ≡ before.replies
@@ -54,7 +54,7 @@ one_more first before after all asked so_far moved =
           ∙ ap (λ l. answers_in (entries_of first.seat.0 first.known) ++ l) (sym answers);
     }
 
--- nothing was put
+-- nothing was submitted
 stayed : (before after : Caller) (asked : Asked) → after.of ≡ before.of → after.replies ≡ before.replies → after.seat ≡ before.seat → after.put ≡ before.put → after.known ≡ before.known → put_of asked ≡ [] → answers_of asked ≡ []
     → HasMoved before asked after
 stayed before after asked of replies seat put known none none_told = record {
@@ -72,7 +72,7 @@ handed_back before after count asked closed none none_told = ⊎_elim
     (λ refused. stayed before after asked (ap (λ (c : Caller). c.of) refused) (ap (λ (c : Caller). c.replies) refused) (ap (λ (c : Caller). c.seat) refused) (ap (λ (c : Caller). c.put) refused) (ap (λ (c : Caller). c.known) refused) none none_told)
     closed
 
--- they were put, and no answers came
+-- they were submitted, and no answers came
 lost : (before after : Caller) (asks : List Ask) (asked : Asked) → after ≡ record before { put = before.put ++ calls_after before.seat (length before.put) asks; shut = true } → put_of asked ≡ asks → answers_of asked ≡ []
     → HasMoved before asked after
 lost before after asks asked is puts none_told = record {

@@ -4,7 +4,7 @@ use Rattle.std.proofs.lemmas.List.{append-nil, append_assoc}
 use Rattle.std.proofs.lemmas.Slice.Zip.{all_zipped_more}
 use Rattle.std.specs.List.{AllZip}
 
--- the items before those that are left have something each, so far
+-- the items before the remaining ones have something each, so far
 pub record Each {P H : Type 0} (Has : P → H → Type 0) (all left : List P) (had : List H) : Type 0 where
   pub done : List P
   pub whole : all ≡ done ++ left
@@ -26,7 +26,8 @@ each_all Has all left had e none =
     let whole : all ≡ e.done = e.whole ∙ (λ i. e.done ++ none i) ∙ append-nil e.done in
     subst (λ l. AllZip Has l had) (sym whole) e.each
 
--- what holds of each item and its thread, and of the thread and its result, holds of the item and that result
+-- a property of each item and its thread, and one of the thread and its result, give one of the item and that
+-- result
 pub through : {P H R : Type 0} (Has : P → H → Type 0) (Gives : H → R → Type 0) (Kept : P → R → Type 0)
     → ((p : P) (h : H) (r : R) → Has p h → Gives h r → Kept p r)
     → (all : List P) (threads : List H) (results : List R) → AllZip Has all threads → AllZip Gives threads results → AllZip Kept all results

@@ -1,16 +1,16 @@
-//! How the workers of a relay end before their turns do.
+//! Stops the workers of a relay before their turns end.
 
 ghost use Rattle.std.specs.Prelude.{◌≡◌, ◌≤◌, ◌∷◌, [], None, Some, false, map, true};
 ghost use Rattle.rly_threads.specs.Cut.{handed_at};
-ghost use Rattle.rly_post.specs.Telling.{TellsMore};
+ghost use Rattle.rly_link.specs.LinkHistory.{TellsMore};
 ghost use Rattle.rly_threads.specs.HelpersCut.{IsCutting, IsHeard};
 
 use http_server::Log;
-use rly_post::{Go, Point, Turn, Worker};
+use rly_link::{Go, Point, Turn, Worker};
 use std::marker::{Brand, Model, PhantomData};
 use std::sync::{OnceLock, OnceToken, Wait};
 
-/// Says to the workers of a relay whether they are to end at their next turns. It is said once, for all of them.
+/// Sets the stop flag of a relay: whether its workers end at their next turns. It is set once, for all of them.
 pub(crate) fn tell_workers<'a, R: Wait>(
     rt: &R,
     word: &'a OnceLock<bool>,
@@ -20,7 +20,7 @@ pub(crate) fn tell_workers<'a, R: Wait>(
     ensures value { result.value ≡ cut }
 {
     for _try in rt.forever() {
-        // Nobody else says it, so the first try is the last.
+        // Nobody else sets it, so the first try is the last.
         if let Ok(said) = word.set(rt, cut) {
             return said;
         }
@@ -28,26 +28,26 @@ pub(crate) fn tell_workers<'a, R: Wait>(
     unreachable!()
 }
 
-/// Whose turns and whose seat they are, for the proof alone.
-pub trait Whose {
+/// The owner of a clock and a seat, for the proof only.
+pub trait TurnOwner {
     ghost use Rattle.std.specs.Prelude.{ℕ, Bool, List, Option};
     ghost use Rattle.rly_line.specs.Seats.{Caller};
-    ghost use Rattle.rly_post.specs.Telling.{Handed};
+    ghost use Rattle.rly_link.specs.LinkHistory.{Handed};
 
-    /// What the turns told at first.
+    /// The first ticks of the clock.
     ghost first: { Option (List Handed) };
 
-    /// Whether they are without end.
+    /// Whether the clock never stops.
     ghost endless: { Bool };
 
     /// The seat at first.
     ghost seat: { Option Caller };
 
-    /// The lock of the word.
+    /// The lock of the stop flag.
     ghost lock: { ℕ };
 }
 
-impl Whose for Brand {
+impl TurnOwner for Brand {
     ghost use Rattle.std.specs.Prelude.{None, false};
 
     ghost first = { None };
@@ -59,19 +59,19 @@ impl Whose for Brand {
     ghost lock = { 0 };
 }
 
-/// The turns of a worker, which end early once it hears that its relay is cut.
+/// The clock of a worker, which stops it early once the relay's stop flag is set.
 #[derive(Drop)]
-pub(crate) struct CutTurn<'a, T: Turn, W: Whose> {
+pub(crate) struct CutTurn<'a, T: Turn, W: TurnOwner> {
     turn: T,
     word: &'a OnceLock<bool>,
-    /// What it heard where it ended the worker.
+    /// The stop flag as read at the stop, if it was.
     heard: Option<OnceToken<'a, bool>>,
     whose: PhantomData<W>,
-    /// What the turns handed out, and where the worker was cut. It takes no memory.
+    /// The ticks, and whether the worker was stopped there. It takes no memory.
     looks: Log<(Worker, Point), (Go, bool)>,
 }
 
-impl<'a, T: Turn, W: Whose> Model for CutTurn<'a, T, W> {
+impl<'a, T: Turn, W: TurnOwner> Model for CutTurn<'a, T, W> {
     ghost use Rattle.rly_threads.specs.HelpersCut.{CutView, IsCutting, looks_in};
 
     ghost Value = { CutView T };
@@ -82,8 +82,8 @@ impl<'a, T: Turn, W: Whose> Model for CutTurn<'a, T, W> {
         (record { turn = c.turn; lock = c.word.now.id; heard = c.heard; looks = looks_in c.looks }) };
 }
 
-impl<'a, T: Turn + Drop, W: Whose> CutTurn<'a, T, W> {
-    /// These turns, which end once the word is that the relay is cut.
+impl<'a, T: Turn + Drop, W: TurnOwner> CutTurn<'a, T, W> {
+    /// This clock, which stops once the flag says that the relay is cut.
     pub(crate) fn new(turn: T, word: &'a OnceLock<bool>) -> CutTurn<'a, T, W>
         requires first { T.told turn ≡ W.first }
         requires endless { T.endless turn ≡ W.endless }
@@ -99,7 +99,7 @@ impl<'a, T: Turn + Drop, W: Whose> CutTurn<'a, T, W> {
         }
     }
 
-    /// The turns, given back, and what was heard where the worker was cut.
+    /// The clock, handed back, and the stop flag as read at the stop.
     pub(crate) fn into_parts(self) -> (T, Option<OnceToken<'a, bool>>)
         ensures turn { result.0 ≡ self.entry.turn }
         ensures heard { result.1 ≡ self.entry.heard }
@@ -116,19 +116,20 @@ impl<'a, T: Turn + Drop, W: Whose> CutTurn<'a, T, W> {
     }
 }
 
-impl<'a, T: Turn + Drop, W: Whose> Turn for CutTurn<'a, T, W> {
+impl<'a, T: Turn + Drop, W: TurnOwner> Turn for CutTurn<'a, T, W> {
     ghost use Rattle.std.specs.Prelude.{Some, false, map};
     ghost use Rattle.rly_threads.specs.Cut.{handed_at};
 
     ghost told = { λ c. Some (map handed_at c.looks) };
 
-    // They may be cut.
+    // It may be stopped.
     ghost endless = { λ _. false };
 
     ghost latest = { λ c. T.latest c.turn };
 
     fn between<R: Wait>(&mut self, rt: &R, worker: Worker, point: Point) -> Go
-        ensures told { TellsMore (Some (map handed_at self.old.looks)) (Some (map handed_at self.new.looks)) ((worker, point, result) ∷ []) }
+        ensures told { TellsMore (Some (map handed_at self.old.looks)) (Some (map handed_at self.new.looks))
+            ((worker, point, result) ∷ []) }
         ensures endless { (false ≡ false) × (false ≡ true → result.on ≡ true) }
         ensures since { (T.latest self.old.turn ≤ result.since) × (T.latest self.new.turn ≡ result.since) }
     {
@@ -149,7 +150,7 @@ impl<'a, T: Turn + Drop, W: Whose> Turn for CutTurn<'a, T, W> {
     }
 }
 
-/// The word, if it is that the relay is cut.
+/// The stop flag, if it says that the relay is cut.
 fn heard_end<'a>(word: &'a OnceLock<bool>) -> Option<OnceToken<'a, bool>>
     ensures { IsHeard word.now.id result }
 {

@@ -1,27 +1,24 @@
-//! The relay: the flusher and the workers, each in a thread of its own.
+//! The relay: the committer and the workers, each in a thread of its own.
 
-ghost use Rattle.std.specs.Prelude.{◌≡◌, ◌≤◌, ◌⊎◌, ◌||◌, [], IfErr, IfOk, IfSome, List, Option, Some, length, not, true, vec_capacity};
+ghost use Rattle.std.specs.Prelude.{◌≡◌, ◌≤◌, ◌||◌, [], IfErr, IfOk, IfSome, Some, length, not, true, vec_capacity};
 ghost use Rattle.std.specs.List.{AllByRecursion, AllZip, list_all, zip};
 ghost use Rattle.std.specs.Option.{is_some};
-ghost use Rattle.rly_disk.specs.DiskModel.{HasFailed, Later};
-ghost use Rattle.rly_flush.specs.Flushing.{IsServed, new_flusher};
-ghost use Rattle.rly_line.specs.EndViews.{names_of, new_tellers};
-ghost use Rattle.rly_line.specs.Replies.{ReplyId};
-ghost use Rattle.rly_line.specs.Responding.{IsLeftBy, IsSeatOf};
-ghost use Rattle.rly_line.specs.Submission.{LineId};
-ghost use Rattle.rly_threads.specs.HelpersCut.{AreSeatsOf, GivesBack, IsFor, IsHeard, IsJoined, IsRelayed};
-ghost use Rattle.rly_threads.specs.Relay.{AreAnsweredBy, HasEnded, HaveEnded, has_run_out, is_to_end, new_end, seated};
+ghost use Rattle.rly_flush.specs.FlusherHistory.{IsServed};
+ghost use Rattle.rly_line.specs.EndViews.{names_of, new_reply_ends};
+ghost use Rattle.rly_line.specs.ResponderView.{IsLeftBy, IsSeatOf};
+ghost use Rattle.rly_threads.specs.HelpersCut.{AreSeatsOf, GivesBack, IsFor, IsHeard, IsJoined};
+ghost use Rattle.rly_threads.specs.Relay.{AreAnsweredBy, HasEnded, IsRelayEnd, IsRelayEndAt, has_run_out, is_to_end};
 
-use crate::cut::{CutTurn, Whose, tell_workers};
+use crate::cut::{CutTurn, TurnOwner, tell_workers};
 use crate::seat_desk::SeatDesk;
 use rly_core::Params;
 use rly_disk::Disk;
 use rly_flush::{Finished, Flusher};
 use rly_journal::Journal;
 use rly_line::{ClosedEnd, LeftSeat, LineEnd, Seat, make};
+use rly_link::{Link, Post, Turn, Waker, Worker};
 use rly_plan::Plan;
-use rly_post::{Link, Post, Turn, Worker};
-use rly_workers::{Ends, receiver_run, sender_run};
+use rly_threads_workers::{Ends, receiver_run, sender_run};
 use std::alloc::Global;
 use std::marker::Brand;
 use std::snapshot::Snapshot;
@@ -29,67 +26,51 @@ use std::sync::{OnceLock, OnceToken, Wait};
 use std::thread;
 use std::thread::{Promise, PromisedHandle, Scope, Threads};
 
-/// A worker that had a thread, at its end.
+/// A worker that had a thread, after its end.
 #[derive(Drop)]
-pub struct Ended<L: Link, T: Turn> {
+pub struct Ended<L: Link, T: Turn, W: Waker> {
     /// Its post.
-    pub post: Post<L, T>,
-    /// Its seat as it was left, for proofs. It takes no room.
+    pub post: Post<L, T, W>,
+    /// The remains of its seat, for proofs. It has no size at run time.
     pub seat: Snapshot<LeftSeat>,
-    /// Whether it was cut: it was told to end, and its turns would have had it go on.
+    /// Whether it was stopped before its turns ran out.
     pub was_cut: bool,
 }
 
-/// What a relay leaves once all workers have ended.
+/// The result of a relay after all workers ended.
 #[derive(Drop)]
-pub struct Relayed<D: Disk, L: Link, T: Turn> {
-    /// What its flusher leaves.
+pub struct Relayed<D: Disk, L: Link, T: Turn, W: Waker> {
+    /// The result of its flusher.
     pub finished: Finished<D>,
-    /// Its workers, in the order of their posts. None: there was no thread for it, and it did nothing.
-    pub ended: Vec<Option<Ended<L, T>>>,
-    /// Whether its workers were told to end at their next turns: the journal broke, or one of them had no thread.
+    /// Its workers, in the order of their posts. `None`: it got no thread, and did nothing.
+    pub ended: Vec<Option<Ended<L, T, W>>>,
+    /// Whether its workers were stopped early: the journal broke, or one of them got no thread.
     pub is_cut: bool,
-    /// Whether each worker had a thread and ran until its turns were ended.
+    /// Whether each worker got a thread and ran until its turns ran out.
     pub complete: bool,
 }
 
-/// Starts each worker in a thread of its own, and waits until all have ended. Their calls are answered meanwhile: the
-/// flusher has the calling thread. Once the journal is broken each worker ends at its next turn, and at once where one of them
-/// had no thread. Where memory is refused for the lines, the flusher or what the threads give back, nothing is started, and the
-/// journal is handed back.
+/// Starts each worker in a thread of its own, and waits until all have ended. The calling thread runs the flusher,
+/// which answers their calls meanwhile. Once the journal is broken each worker stops at its next turn, and at once
+/// if one of them got no thread. If memory is refused for the queues, the flusher or the threads' results, nothing
+/// is started, and the journal is handed back.
 pub fn run_relay<
     R: Threads + Wait + Sync,
     D: Disk + Drop,
     L: Link + Drop + Send,
     T: Turn + Drop + Send,
+    W: Waker + Drop + Send,
 >(
     rt: &R,
     alloc: Global,
     journal: Journal<D>,
     plan: &Plan,
-    posts: Vec<Post<L, T>>,
-) -> Result<Relayed<D, L, T>, Journal<D>>
+    posts: Vec<Post<L, T, W>>,
+) -> Result<Relayed<D, L, T, W>, Journal<D>>
     requires { (1 ≤ length posts.items) × (length posts.items ≤ 256) }
-    ensures broken { IfOk result (λ relayed. relayed.finished.broken ≡ relayed.finished.journal.broken) }
-    // The journal ends broken only where it was, or where a call of its device failed.
-    ensures broke { IfOk result (λ relayed. relayed.finished.broken ≡ true →
-        (journal.broken ≡ true) ⊎ HasFailed (D.state journal.disk) (D.state relayed.finished.journal.disk)) }
-    // What its flusher leaves is what rounds make of the journal, at the end of a new line with a seat for each worker.
-    ensures served { IfOk result (λ relayed. (line : LineId) × (names : List (Option ReplyId)) × (length names ≡ length posts.items)
-        × IsServed D.state (new_flusher journal (new_end line names)) relayed.finished.last.value) }
-    ensures left { IfOk result (λ relayed. relayed.finished.last.value.journal ≡ relayed.finished.journal) }
-    // Each worker that had a thread did at its post and its seat of that line what the plan says of it, with the journal's parameters.
-    ensures worked { IfOk result (λ relayed. AllZip (HaveEnded L.heard L.sent T.told T.endless plan.now journal.state.params)
-        (seated relayed.finished.last.value.line.of (names_of relayed.finished.last.value.line.lines) posts.items) relayed.ended.items) }
-    ensures seats { IfOk result (λ relayed. length relayed.finished.last.value.line.lines ≡ length posts.items) }
-    // What its seat put begins with all asks that the flusher's history has of it, and what it knows is a prefix of that history.
-    ensures answered { IfOk result (λ relayed. AreAnsweredBy relayed.finished.last.value.line relayed.ended.items) }
-    // The workers are told to end exactly where the journal broke or one of them had no thread, and none is cut elsewhere.
-    ensures told { IfOk result (λ relayed. relayed.is_cut ≡ is_to_end relayed.finished.broken relayed.ended.items) }
-    ensures cut { IfOk result (λ relayed. AllByRecursion
-        (λ ended. IfSome ended (λ worker. worker.was_cut ≡ true → relayed.is_cut ≡ true)) relayed.ended.items) }
-    ensures complete { IfOk result (λ relayed. relayed.complete ≡ list_all has_run_out relayed.ended.items) }
-    ensures later { IfOk result (λ relayed. Later (D.state journal.disk) (D.state relayed.finished.journal.disk)) }
+    // At the end of a new line that has a seat for each worker.
+    ensures end { IfOk result (λ relayed. IsRelayEnd D.state L.heard L.sent T.told T.endless W.woken plan.now journal
+        (length posts.items) posts.items relayed) }
     ensures refused { IfErr result (λ back. back ≡ journal) }
 {
     let workers = posts.len() as u16;
@@ -100,55 +81,45 @@ pub fn run_relay<
     run_relay_at(rt, alloc, journal, plan, posts, seats, line_end, &word)
 }
 
-/// As `run_relay`, at the end of a new line and with a word of the caller's. Each worker has the seat of its place. Others may have
-/// seats of that line too: the relay ends once they have left them as well, unless the journal broke. The word is said once the
-/// workers are to end or the relay has ended, so who sees it said knows that no more calls need be made. Where memory is refused,
-/// the line is closed and the word said.
+/// The same as `run_relay`, at the end of a new queue and with a stop flag of the caller's. Each worker gets the
+/// seat of its index. Others may have seats of that queue too: the relay ends once they have left them as well,
+/// unless the journal broke. The flag is set once the workers are to end or the relay has ended: a reader that sees
+/// it set needs to make no more calls. If memory is refused, the queue is closed and the flag set.
 pub fn run_relay_at<
     R: Threads + Wait + Sync,
     D: Disk + Drop,
     L: Link + Drop + Send,
     T: Turn + Drop + Send,
+    W: Waker + Drop + Send,
 >(
     rt: &R,
     alloc: Global,
     journal: Journal<D>,
     plan: &Plan,
-    posts: Vec<Post<L, T>>,
+    posts: Vec<Post<L, T, W>>,
     seats: Vec<Seat>,
     line_end: LineEnd,
     word: &OnceLock<bool>,
-) -> Result<Relayed<D, L, T>, Journal<D>>
+) -> Result<Relayed<D, L, T, W>, Journal<D>>
     requires each { length seats.items ≡ length posts.items }
     requires seats { AllByRecursion (IsSeatOf line_end.of (names_of line_end.lines)) seats.items }
-    requires new { line_end ≡ record line_end { taken = []; lines = new_tellers 0 (names_of line_end.lines) } }
-    ensures broken { IfOk result (λ relayed. relayed.finished.broken ≡ relayed.finished.journal.broken) }
-    ensures broke { IfOk result (λ relayed. relayed.finished.broken ≡ true →
-        (journal.broken ≡ true) ⊎ HasFailed (D.state journal.disk) (D.state relayed.finished.journal.disk)) }
-    // What its flusher leaves is what rounds make of the journal, at that end.
-    ensures served { IfOk result (λ relayed. IsServed D.state (new_flusher journal line_end) relayed.finished.last.value) }
-    ensures left { IfOk result (λ relayed. relayed.finished.last.value.journal ≡ relayed.finished.journal) }
-    // Its closed end is that of its flusher, for those who have other seats.
-    ensures closed { IfOk result (λ relayed. IsLeftBy relayed.finished.last.value.line relayed.finished.lines) }
-    ensures worked { IfOk result (λ relayed. AllZip (HaveEnded L.heard L.sent T.told T.endless plan.now journal.state.params)
-        (zip posts.items seats.items) relayed.ended.items) }
-    ensures answered { IfOk result (λ relayed. AreAnsweredBy relayed.finished.last.value.line relayed.ended.items) }
-    ensures told { IfOk result (λ relayed. relayed.is_cut ≡ is_to_end relayed.finished.broken relayed.ended.items) }
-    ensures cut { IfOk result (λ relayed. AllByRecursion
-        (λ ended. IfSome ended (λ worker. worker.was_cut ≡ true → relayed.is_cut ≡ true)) relayed.ended.items) }
-    ensures complete { IfOk result (λ relayed. relayed.complete ≡ list_all has_run_out relayed.ended.items) }
-    ensures later { IfOk result (λ relayed. Later (D.state journal.disk) (D.state relayed.finished.journal.disk)) }
+    requires new { line_end ≡ record line_end { taken = []; lines = new_reply_ends 0 (names_of line_end.lines) } }
+    // At the end of the line that is given.
+    ensures end { IfOk result
+        (λ relayed. IsRelayEndAt D.state L.heard L.sent T.told T.endless W.woken plan.now journal line_end
+        (zip posts.items seats.items) relayed) }
     ensures refused { IfErr result (λ back. back ≡ journal) }
 {
     thread::scope(
         thread::scope_env(),
         rt,
-        move |scope| -> Result<Relayed<D, L, T>, Journal<D>>
+        move |scope| -> Result<Relayed<D, L, T, W>, Journal<D>>
             requires each { length seats.items ≡ length posts.items }
             requires seats { AllByRecursion (IsSeatOf line_end.of (names_of line_end.lines)) seats.items }
-            requires new { line_end ≡ record line_end { taken = []; lines = new_tellers 0 (names_of line_end.lines) } }
-            ensures done { IfOk result
-                (λ relayed. IsRelayed D.state L.heard L.sent T.told T.endless plan.entry.now journal line_end
+            requires new { line_end
+                ≡ record line_end { taken = []; lines = new_reply_ends 0 (names_of line_end.lines) } }
+            ensures end { IfOk result
+                (λ relayed. IsRelayEndAt D.state L.heard L.sent T.told T.endless W.woken plan.entry.now journal line_end
                 (zip posts.items seats.items) relayed) }
             ensures refused { IfErr result (λ back. back ≡ journal) }
         {
@@ -159,7 +130,7 @@ pub fn run_relay_at<
     )
 }
 
-/// Reserves what a relay needs, and runs it in threads of a scope. Where memory is refused, nothing is started.
+/// Reserves the memory of a relay, and runs it in threads of a scope. If memory is refused, nothing is started.
 fn relay_in<
     's,
     'a: 's,
@@ -168,21 +139,24 @@ fn relay_in<
     D: Disk + Drop,
     L: Link + Drop + Send + 's,
     T: Turn + Drop + Send + 's,
+    W: Waker + Drop + Send + 's,
 >(
     scope: &Scope<'s, E>,
     rt: &'s R,
     alloc: Global,
     journal: Journal<D>,
     plan: &'s Plan,
-    posts: Vec<Post<L, T>>,
+    posts: Vec<Post<L, T, W>>,
     seats: Vec<Seat>,
     line_end: LineEnd,
     word: &'a OnceLock<bool>,
-) -> Result<Relayed<D, L, T>, Journal<D>>
+) -> Result<Relayed<D, L, T, W>, Journal<D>>
     requires each { length seats.items ≡ length posts.items }
     requires seats { AllByRecursion (IsSeatOf line_end.of (names_of line_end.lines)) seats.items }
-    requires new { line_end ≡ record line_end { taken = []; lines = new_tellers 0 (names_of line_end.lines) } }
-    ensures done { IfOk result (λ relayed. IsRelayed D.state L.heard L.sent T.told T.endless plan.now journal line_end (zip posts.items seats.items) relayed) }
+    requires new { line_end ≡ record line_end { taken = []; lines = new_reply_ends 0 (names_of line_end.lines) } }
+    ensures end { IfOk result
+        (λ relayed. IsRelayEndAt D.state L.heard L.sent T.told T.endless W.woken plan.now journal line_end
+        (zip posts.items seats.items) relayed) }
     ensures refused { IfErr result (λ back. back ≡ journal) }
 {
     let params = journal.params();
@@ -205,24 +179,32 @@ fn relay_in<
     Ok(serve_to_end(rt, flusher, threads, word, ended))
 }
 
-/// Nothing is started: who has a seat of these lines is answered no more, and who waits for the word has it.
+/// Nothing is started: closes the queues and sets the stop flag.
 fn call_off<R: Wait>(rt: &R, line_end: LineEnd, word: &OnceLock<bool>) {
     let _closed = line_end.close(rt);
     let _said = tell_workers(rt, word, true);
 }
 
-/// Starts the thread of each worker for which there is one, and puts them into an empty list with room for them.
-fn start_all<'s, 'a: 's, E, R: Wait + Sync, L: Link + Drop + Send + 's, T: Turn + Drop + Send + 's>(
+/// Starts a thread for each worker for which there is one, and puts them into an empty list with room for them.
+fn start_all<
+    's,
+    'a: 's,
+    E,
+    R: Wait + Sync,
+    L: Link + Drop + Send + 's,
+    T: Turn + Drop + Send + 's,
+    W: Waker + Drop + Send + 's,
+>(
     scope: &Scope<'s, E>,
     rt: &'s R,
     alloc: Global,
     plan: &'s Plan,
     params: Params,
-    posts: Vec<Post<L, T>>,
+    posts: Vec<Post<L, T, W>>,
     seats: Vec<Seat>,
     word: &'a OnceLock<bool>,
-    empty: Vec<Thread<'a, L, T>>,
-) -> Vec<Thread<'a, L, T>>
+    empty: Vec<Thread<'a, L, T, W>>,
+) -> Vec<Thread<'a, L, T, W>>
     requires seats { length seats.items ≡ length posts.items }
     requires empty { (empty.items ≡ []) × (vec_capacity empty ≡ length posts.items) }
     ensures { AllZip (IsFor plan.now params word.now.id) (zip posts.items seats.items) result.items }
@@ -235,23 +217,33 @@ fn start_all<'s, 'a: 's, E, R: Wait + Sync, L: Link + Drop + Send + 's, T: Turn 
     threads
 }
 
-/// Serves the calls of these workers until the flusher has ended, says to the workers whether they are to end, and waits until
-/// they have. Where one of them has no thread the others are to end at once.
-fn serve_to_end<'a, R: Threads + Wait, D: Disk + Drop, L: Link + Drop, T: Turn + Drop>(
+/// Runs the flusher for these workers until it ends, sets their stop flag, and waits until they have ended. If one
+/// of them got no thread, the others end at once.
+fn serve_to_end<
+    'a,
+    R: Threads + Wait,
+    D: Disk + Drop,
+    L: Link + Drop,
+    T: Turn + Drop,
+    W: Waker + Drop,
+>(
     rt: &R,
     flusher: Flusher<D>,
-    threads: Vec<Thread<'a, L, T>>,
+    threads: Vec<Thread<'a, L, T, W>>,
     word: &'a OnceLock<bool>,
-    empty: Vec<Option<Ended<L, T>>>,
-) -> Relayed<D, L, T>
+    empty: Vec<Option<Ended<L, T, W>>>,
+) -> Relayed<D, L, T, W>
     requires empty { (empty.items ≡ []) × (length threads.items ≤ vec_capacity empty) }
-    requires word { AllByRecursion (λ thread. IfSome thread (λ t. t.promise.word.value.id ≡ word.now.id)) threads.items }
+    requires word { AllByRecursion
+        (λ thread. IfSome thread (λ t. t.promise.word.value.id ≡ word.now.id)) threads.items }
     requires seats { AreSeatsOf flusher.line.of (names_of flusher.line.lines) threads.items }
     ensures broken { result.finished.broken ≡ result.finished.journal.broken }
     ensures served { IsServed D.state flusher result.finished.last.value }
     ensures left { result.finished.last.value.journal ≡ result.finished.journal }
     ensures closed { IsLeftBy result.finished.last.value.line result.finished.lines }
-    ensures joined { AllZip (GivesBack (IsJoined L.heard L.sent T.told T.endless result.is_cut result.finished.lines)) threads.entry.items result.ended.items }
+    ensures joined { AllZip
+        (GivesBack (IsJoined L.heard L.sent T.told T.endless W.woken result.is_cut result.finished.lines))
+        threads.entry.items result.ended.items }
     ensures answered { AreAnsweredBy result.finished.last.value.line result.ended.items }
     ensures told { result.is_cut ≡ is_to_end result.finished.broken result.ended.items }
     ensures complete { result.complete ≡ list_all has_run_out result.ended.items }
@@ -268,8 +260,8 @@ fn serve_to_end<'a, R: Threads + Wait, D: Disk + Drop, L: Link + Drop, T: Turn +
     }
 }
 
-/// Serves until the flusher has ended, and says to the workers whether they are to end: once the journal broke, or at once where
-/// not all of them are there.
+/// Runs the flusher until it ends, and sets the workers' stop flag: if the journal broke, or at once if not all of
+/// them are present.
 fn serve_and_tell<'a, R: Wait, D: Disk + Drop>(
     rt: &R,
     flusher: Flusher<D>,
@@ -293,10 +285,10 @@ fn serve_and_tell<'a, R: Wait, D: Disk + Drop>(
     }
 }
 
-/// The seats of the workers that had no thread are gone.
-fn forget_missing<'a, D: Disk + Drop, L: Link + Drop, T: Turn + Drop>(
+/// Drops the seats of the workers that got no thread.
+fn forget_missing<'a, D: Disk + Drop, L: Link + Drop, T: Turn + Drop, W: Waker + Drop>(
     flusher: &mut Flusher<D>,
-    threads: &[Thread<'a, L, T>],
+    threads: &[Thread<'a, L, T, W>],
 )
     ensures { flusher.new ≡ flusher.old }
 {
@@ -308,40 +300,44 @@ fn forget_missing<'a, D: Disk + Drop, L: Link + Drop, T: Turn + Drop>(
 }
 
 /// Whether each of these workers has a thread.
-fn have_started<'a, L: Link + Drop, T: Turn + Drop>(threads: &[Thread<'a, L, T>]) -> bool
+fn have_started<'a, L: Link + Drop, T: Turn + Drop, W: Waker + Drop>(
+    threads: &[Thread<'a, L, T, W>],
+) -> bool
     ensures { result ≡ list_all is_some threads.now }
 {
     threads.iter().all(Option::is_some)
 }
 
-/// What the thread of a worker gives back: the worker's post, once it did there and at its seat what the plan says of it, and what
-/// it heard where it was cut.
+/// The result of a worker's thread: the worker's post, after it did there and at its seat as the plan defines, and
+/// the stop flag as read at its stop.
 #[derive(Drop)]
-struct Duty<L: Link + Drop, T: Turn + Drop> {
+struct Duty<L: Link + Drop, T: Turn + Drop, W: Waker + Drop> {
     plan: Snapshot<Plan>,
     params: Params,
-    post: Snapshot<Post<L, T>>,
+    post: Snapshot<Post<L, T, W>>,
     seat: Snapshot<Seat>,
     word: Snapshot<OnceLock<bool>>,
 }
 
-impl<'a, L: Link + Drop, T: Turn + Drop> Promise<Left<'a, L, T>> for Duty<L, T> {
+impl<'a, L: Link + Drop, T: Turn + Drop, W: Waker + Drop> Promise<Left<'a, L, T, W>>
+    for Duty<L, T, W> {
     ghost use Rattle.std.specs.Option.{is_some};
     ghost use Rattle.rly_threads.specs.HelpersCut.{IsHeard};
     ghost use Rattle.rly_threads.specs.Relay.{HasEnded};
 
-    ghost kept_by = { λ duty left. HasEnded L.heard L.sent T.told T.endless duty.plan.value duty.params (duty.post.value, duty.seat.value)
+    ghost kept_by = { λ duty left. HasEnded L.heard L.sent T.told T.endless W.woken duty.plan.value duty.params
+        (duty.post.value, duty.seat.value)
         left.post left.seat (is_some left.heard) × IsHeard duty.word.value.id left.heard };
 }
 
 /// The duty of a worker at a post and a seat.
-fn duty_of<L: Link + Drop, T: Turn + Drop>(
+fn duty_of<L: Link + Drop, T: Turn + Drop, W: Waker + Drop>(
     plan: &Plan,
     params: Params,
-    post: &Post<L, T>,
+    post: &Post<L, T, W>,
     seat: &Seat,
     word: &OnceLock<bool>,
-) -> Duty<L, T>
+) -> Duty<L, T, W>
     ensures plan { result.plan.value ≡ plan.now }
     ensures params { result.params ≡ params }
     ensures post { result.post.value ≡ post.now }
@@ -357,30 +353,38 @@ fn duty_of<L: Link + Drop, T: Turn + Drop>(
     }
 }
 
-/// What a worker leaves.
+/// The remains of a worker.
 #[derive(Drop)]
-struct Left<'a, L: Link, T: Turn> {
-    post: Post<L, T>,
-    /// What is left of its seat.
+struct Left<'a, L: Link, T: Turn, W: Waker> {
+    post: Post<L, T, W>,
+    /// The remains of its seat.
     seat: LeftSeat,
-    /// What it heard where it was cut.
+    /// The stop flag as read at its stop.
     heard: Option<OnceToken<'a, bool>>,
 }
 
-/// The thread of a worker, if there was one for it.
-type Thread<'a, L, T> = Option<PromisedHandle<Left<'a, L, T>, Duty<L, T>>>;
+/// The thread of a worker, if it got one.
+type Thread<'a, L, T, W> = Option<PromisedHandle<Left<'a, L, T, W>, Duty<L, T, W>>>;
 
 /// Starts the thread of a worker, if there is one for it.
-fn start<'s, 'a: 's, E, R: Wait + Sync, L: Link + Drop + Send + 's, T: Turn + Drop + Send + 's>(
+fn start<
+    's,
+    'a: 's,
+    E,
+    R: Wait + Sync,
+    L: Link + Drop + Send + 's,
+    T: Turn + Drop + Send + 's,
+    W: Waker + Drop + Send + 's,
+>(
     scope: &Scope<'s, E>,
     rt: &'s R,
     alloc: Global,
     plan: &'s Plan,
     params: Params,
-    post: Post<L, T>,
+    post: Post<L, T, W>,
     seat: Seat,
     word: &'a OnceLock<bool>,
-) -> Thread<'a, L, T>
+) -> Thread<'a, L, T, W>
     ensures { IsFor plan.now params word.now.id (post, seat) result }
 {
     let started = scope.spawn_with(
@@ -393,21 +397,24 @@ fn start<'s, 'a: 's, E, R: Wait + Sync, L: Link + Drop + Send + 's, T: Turn + Dr
     }
 }
 
-/// Waits until all these threads have ended, and puts what they give back into an empty list with room for it. The workers
-/// were told what was said.
-fn join_all<'a, R: Threads + Wait, L: Link + Drop, T: Turn + Drop>(
+/// Waits until all these threads have ended, and puts their results into an empty list with room for them. The stop
+/// flag was set before.
+fn join_all<'a, R: Threads + Wait, L: Link + Drop, T: Turn + Drop, W: Waker + Drop>(
     rt: &R,
-    threads: Vec<Thread<'a, L, T>>,
+    threads: Vec<Thread<'a, L, T, W>>,
     said: &OnceToken<'a, bool>,
     lines: &mut ClosedEnd,
-    empty: Vec<Option<Ended<L, T>>>,
-) -> Vec<Option<Ended<L, T>>>
+    empty: Vec<Option<Ended<L, T, W>>>,
+) -> Vec<Option<Ended<L, T, W>>>
     requires empty { empty.items ≡ [] }
     requires room { length threads.items ≤ vec_capacity empty }
-    requires word { AllByRecursion (λ thread. IfSome thread (λ t. t.promise.word.value.id ≡ said.now.of)) threads.items }
+    requires word { AllByRecursion
+        (λ thread. IfSome thread (λ t. t.promise.word.value.id ≡ said.now.of)) threads.items }
     requires seats { AreSeatsOf lines.old.of (names_of lines.old.lines) threads.items }
     ensures same { lines.new ≡ lines.old }
-    ensures joined { AllZip (GivesBack (IsJoined L.heard L.sent T.told T.endless said.now.value lines.old)) threads.entry.items result.items }
+    ensures joined { AllZip
+        (GivesBack (IsJoined L.heard L.sent T.told T.endless W.woken said.now.value lines.old)) threads.entry.items
+        result.items }
 {
     let mut ended = empty;
     for thread in threads {
@@ -416,17 +423,18 @@ fn join_all<'a, R: Threads + Wait, L: Link + Drop, T: Turn + Drop>(
     ended
 }
 
-/// Waits until this thread has ended, and learns what its seat knows.
-fn join<'a, R: Threads + Wait, L: Link + Drop, T: Turn + Drop>(
+/// Waits until this thread has ended, and gets the history that its seat knows.
+fn join<'a, R: Threads + Wait, L: Link + Drop, T: Turn + Drop, W: Waker + Drop>(
     rt: &R,
-    thread: Thread<'a, L, T>,
+    thread: Thread<'a, L, T, W>,
     said: &OnceToken<'a, bool>,
     lines: &mut ClosedEnd,
-) -> Option<Ended<L, T>>
+) -> Option<Ended<L, T, W>>
     requires word { IfSome thread (λ t. t.promise.word.value.id ≡ said.now.of) }
     requires seat { IfSome thread (λ t. IsSeatOf lines.old.of (names_of lines.old.lines) t.promise.seat.value) }
     ensures same { lines.new ≡ lines.old }
-    ensures joined { GivesBack (IsJoined L.heard L.sent T.told T.endless said.now.value lines.old) thread.entry result }
+    ensures joined { GivesBack
+        (IsJoined L.heard L.sent T.told T.endless W.woken said.now.value lines.old) thread.entry result }
 {
     let left = thread?.join(rt);
     let was_cut = match &left.heard {
@@ -445,15 +453,15 @@ fn join<'a, R: Threads + Wait, L: Link + Drop, T: Turn + Drop>(
     })
 }
 
-/// Whether each of these had a thread, and ran until its turns were ended.
-fn have_run_out<L: Link, T: Turn>(ended: &[Option<Ended<L, T>>]) -> bool
+/// Whether each of these got a thread, and ran until its turns ran out.
+fn have_run_out<L: Link, T: Turn, W: Waker>(ended: &[Option<Ended<L, T, W>>]) -> bool
     ensures { result ≡ list_all has_run_out ended.now }
 {
     ended.iter().all(has_run_out)
 }
 
-/// Whether this one had a thread, and ran until its turns were ended.
-fn has_run_out<L: Link, T: Turn>(ended: &Option<Ended<L, T>>) -> bool
+/// Whether this one got a thread, and ran until its turns ran out.
+fn has_run_out<L: Link, T: Turn, W: Waker>(ended: &Option<Ended<L, T, W>>) -> bool
     ensures { result ≡ has_run_out ended.now }
 {
     match ended {
@@ -462,56 +470,72 @@ fn has_run_out<L: Link, T: Turn>(ended: &Option<Ended<L, T>>) -> bool
     }
 }
 
-/// A worker at its post, from its start to its end, in a spool with these parameters.
-fn work<'a, R: Wait, L: Link + Drop, T: Turn + Drop>(
+/// Runs a worker at its post, from its start to its end, in a spool with these parameters.
+fn work<'a, R: Wait, L: Link + Drop, T: Turn + Drop, W: Waker + Drop>(
     rt: &R,
     alloc: Global,
     plan: &Plan,
     params: Params,
-    post: Post<L, T>,
+    post: Post<L, T, W>,
     seat: Seat,
     word: &'a OnceLock<bool>,
-) -> Left<'a, L, T>
-    ensures ended { HasEnded L.heard L.sent T.told T.endless plan.now params (post, seat)
+) -> Left<'a, L, T, W>
+    ensures ended { HasEnded L.heard L.sent T.told T.endless W.woken plan.now params (post, seat)
         result.post result.seat (is_some result.heard) }
     ensures heard { IsHeard word.now.id result.heard }
 {
-    work_as::<Brand, R, L, T>(rt, alloc, plan, params, post, seat, word)
+    work_as::<Brand, R, L, T, W>(rt, alloc, plan, params, post, seat, word)
 }
 
-fn work_as<'a, W: Whose, R: Wait, L: Link + Drop, T: Turn + Drop>(
+fn work_as<'a, O: TurnOwner, R: Wait, L: Link + Drop, T: Turn + Drop, W: Waker + Drop>(
     rt: &R,
     alloc: Global,
     plan: &Plan,
     params: Params,
-    post: Post<L, T>,
+    post: Post<L, T, W>,
     seat: Seat,
     word: &'a OnceLock<bool>,
-) -> Left<'a, L, T>
-    requires first { T.told post.turn ≡ W.first }
-    requires endless { T.endless post.turn ≡ W.endless }
-    requires seat { W.seat ≡ Some seat }
-    requires lock { word.now.id ≡ W.lock }
-    ensures ended { HasEnded L.heard L.sent T.told T.endless plan.now params (post, seat)
+) -> Left<'a, L, T, W>
+    requires first { T.told post.turn ≡ O.first }
+    requires endless { T.endless post.turn ≡ O.endless }
+    requires seat { O.seat ≡ Some seat }
+    requires lock { word.now.id ≡ O.lock }
+    ensures ended { HasEnded L.heard L.sent T.told T.endless W.woken plan.now params (post, seat)
         result.post result.seat (is_some result.heard) }
     ensures heard { IsHeard word.now.id result.heard }
 {
-    let Post { worker, link, turn } = post;
+    let Post {
+        worker,
+        link,
+        turn,
+        waker,
+    } = post;
     let mut ends = Ends {
         link,
-        desk: SeatDesk::<W>::new(seat),
-        turn: CutTurn::<'_, T, W>::new(turn, word),
+        desk: SeatDesk::<O>::new(seat),
+        turn: CutTurn::<'_, T, O>::new(turn, word),
+        waker,
     };
     match worker {
         Worker::Receiver(peer) => receiver_run(rt, alloc, plan, peer, &mut ends),
         Worker::Sender(hop) => sender_run(rt, alloc, plan, hop, &params, &mut ends),
     }
-    let Ends { link, desk, turn } = ends;
+    let Ends {
+        link,
+        desk,
+        turn,
+        waker,
+    } = ends;
     let (turn, heard) = turn.into_parts();
-    // The flusher ends once each seat is left.
+    // The flusher ends once each seat has left.
     let seat = desk.leave(rt);
     Left {
-        post: Post { worker, link, turn },
+        post: Post {
+            worker,
+            link,
+            turn,
+            waker,
+        },
         seat,
         heard,
     }

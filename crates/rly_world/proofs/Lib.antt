@@ -19,4 +19,5 @@ mod PairCoreSteps
 mod PairUpper
 mod PairLower
 mod PairHolds
-mod PairWaiting
+mod PairWaits
+mod KeyedCase

@@ -1,4 +1,4 @@
--- What the two cores ask and send, as far as it bears on custody.
+-- The requests and messages of the two cores, as far as they concern custody.
 use Rattle.std.proofs.Common.{ℕ, ◌≡◌, ◌+◌, ◌-◌, ◌^◌, ◌≤◌, Bool, true, false, true≢false, not, ◌&&◌, ◌==◌, nat_lt}
 use Rattle.std.proofs.Common.{nat_le, max, if◌then◌else◌, List, [], ◌∷◌, ◌++◌, refl, arith}
 use Rattle.std.proofs.Common.{sym, ap, subst, Option, Some, None, is_some, is_none}
@@ -22,10 +22,10 @@ use Rattle.rly_hop.specs.declared.sending.event.OutEvent.TheVariants.{Turn, Wind
 use Rattle.rly_hop.specs.declared.sending.event.OutEvent.TheVariants.{Released, Unchanged, Refused, Other, Heard}
 use Rattle.rly_hop.specs.declared.sending.event.OutEvent.TheVariants.{Timeout}
 use Rattle.rly_hop.specs.Receiver.{Receiver}
-use Rattle.rly_hop.specs.Receiving.{ReceivingResult, after_answer, custody_message, is_told, receiving_step}
+use Rattle.rly_hop.specs.Receiving.{ReceivingResult, after_answer, custody_message, is_reported_refusal, receiving_step}
 use Rattle.rly_hop.specs.Receiving.{refusal_message, take_reply}
 use Rattle.rly_hop.specs.Sender.{Sender}
-use Rattle.rly_hop.specs.Sending.{SendingResult, after_release, is_unsure, sending_step, turn}
+use Rattle.rly_hop.specs.Sending.{SendingResult, after_release, is_unsure, sending_step, turn_action}
 use Rattle.rly_machine.specs.declared.command.Ask.{Ask}
 use Rattle.rly_machine.specs.declared.command.Ask.TheVariants.{Command, Query}
 use Rattle.rly_machine.specs.declared.command.Command.TheVariants as command
@@ -35,15 +35,15 @@ use Rattle.rly_world.specs.PairPayloads.{IsPrefix, Numbered}
 use Rattle.rly_world.proofs.PairFetch.{IsUnder}
 use Rattle.rly_world.proofs.PairLists.{get_in_front}
 
--- given: what the upper picked for the lower, which no crash takes away; kept: how many the lower took, likewise
+-- given: the datagrams that the upper durably picked for the lower; kept: the number that the lower durably took
 
--- a message says nothing that either could lose
+-- a message has nothing that either could lose
 abbrev pub IsSafe : List (Numbered (List ℕ)) → ℕ → Message (List ℕ) → Type 0
 IsSafe given kept (message.Data from to number limit payload) = IsUnder given number limit payload
 IsSafe given kept (message.Custody from to last) = last ≤ kept
 IsSafe given kept (message.Refused from to number refusal) = Unit {0}
 
--- a call of the sending core: it releases only what was taken, and fetches from its hop
+-- a request of the sending core: it releases only taken datagrams, and fetches from its hop
 abbrev pub IsSafeAsk : HopId → ℕ → Ask → Type 0
 IsSafeAsk hop kept (Command (command.Release to number)) = number ≤ kept
 IsSafeAsk hop kept (Command (command.Take peer number to stamp limit payload)) = Unit {0}
@@ -52,7 +52,7 @@ IsSafeAsk hop kept (Query (query.Fetch to number)) = to ≡ hop
 IsSafeAsk hop kept (Query (query.Window to)) = Unit {0}
 IsSafeAsk hop kept (Query (query.Show to)) = Unit {0}
 
--- what the sending core is told: custody of what was taken, and bytes that were picked
+-- an event of the sending core: custody of taken datagrams, and bytes that were picked
 abbrev pub IsSafeEvent : List (Numbered (List ℕ)) → ℕ → OutEvent (List ℕ) → Type 0
 IsSafeEvent given kept (Heard m) = IsSafe given kept m
 IsSafeEvent given kept (Fetched number limit payload) = IsUnder given number limit payload
@@ -66,24 +66,24 @@ IsSafeEvent given kept (Refused refusal) = Unit {0}
 IsSafeEvent given kept Other = Unit {0}
 IsSafeEvent given kept Timeout = Unit {0}
 
--- what it knows to be acknowledged was taken
+-- all that it knows to be acknowledged was taken
 abbrev pub IsKept : ℕ → Option ℕ → Type 0
 IsKept kept None = Unit {0}
 IsKept kept (Some a) = a ≤ kept
 
--- what it leaves, asks and sends
+-- its new state, requests and messages
 pub record SendsSafely (given : List (Numbered (List ℕ))) (kept : ℕ) (hop : HopId) (moment : ℕ)
     (result : SendingResult) : Type 0 where
   pub acked : IsKept kept result.0.acked
   pub asks : AllByRecursion (IsSafeAsk hop kept) (sender_asks hop moment result.1)
   pub sends : AllByRecursion (IsSafe given kept) (sender_sends result.1)
 
--- a fact of either branch
+-- a property of either branch
 pub either : {A : Type 0} (b : Bool) (x y : A) (P : A → Type 0) → P x → P y → P (if b then x else y)
 either true x y P p q = p
 either false x y P p q = q
 
--- nothing is named
+-- no request is made
 silent : (given : List (Numbered (List ℕ))) (kept : ℕ) (hop : HopId) (moment : ℕ) (s : Sender) → IsKept kept s.acked
     → SendsSafely given kept hop moment (s, None)
 silent given kept hop moment s acked = record { acked = acked; asks = tt; sends = tt }
@@ -100,11 +100,11 @@ release_silent : (given : List (Numbered (List ℕ))) (kept : ℕ) (acked : Opti
 release_silent given kept None = tt
 release_silent given kept (Some a) = tt
 
--- what holds of each row of a turn holds of what the turn names
+-- a property of each case of a turn holds for the turn's requests
 turn_rows : (s : Sender) (is_open : Bool) (P : Option (OutAction (List ℕ)) → Type 0)
     → P (Some out_action.AskWindow)
     → P (option_map (λ (n : ℕ). let a : OutAction (List ℕ) = out_action.Release n in a) s.acked) → P None
-    → P (Some (out_action.Fetch s.cursor)) → P (Some out_action.Pick) → P (turn s is_open)
+    → P (Some (out_action.Fetch s.cursor)) → P (Some out_action.Pick) → P (turn_action s is_open)
 turn_rows s is_open P window release none fetch pick =
     either (not s.ready) _ _ P window
     (either (is_some s.acked) _ _ P release
@@ -170,7 +170,7 @@ sends_safely given kept hop moment s (Refused refusal) acked safe =
 sends_safely given kept hop moment s Nothing acked safe = silent given kept hop moment s acked
 sends_safely given kept hop moment s Other acked safe = silent given kept hop moment s acked
 
--- ---- what is safe stays so
+-- ---- a safe state stays safe
 
 under_later : {P : Type 0} (xs ys : List (Numbered P)) (number limit : ℕ) (payload : P) → IsPrefix xs ys
     → IsUnder xs number limit payload → IsUnder ys number limit payload
@@ -218,7 +218,7 @@ acked_later kept rest below (Some a) safe = omega (arith, safe, below)
 
 -- ---- the receiving core
 
--- a call of a receiving core is a Take of what was picked
+-- a request of a receiving core is a Take of a picked datagram
 abbrev pub IsSafeTake : PeerId → List (Numbered (List ℕ)) → Ask → Type 0
 IsSafeTake peer given (Command (command.Take from number to stamp limit payload)) = (from ≡ peer)
     × IsUnder given number limit payload
@@ -234,7 +234,7 @@ take_later peer given more p (Command (command.Pick to now)) safe = safe
 take_later peer given more p (Command (command.Release to number)) safe = safe
 take_later peer given more p (Query any) safe = safe
 
--- the answer to the Take of a number says nothing that isn't kept
+-- the reply to the Take of a number acknowledges only kept ones
 abbrev pub IsTrueAnswer : ℕ → ℕ → TakeAnswer → Type 0
 IsTrueAnswer kept number answer.Taken = number ≤ kept
 IsTrueAnswer kept number (answer.Already last) = last ≤ kept
@@ -266,7 +266,7 @@ abbrev pub waiting : Option ℕ → List ℕ
 waiting None = []
 waiting (Some number) = number ∷ []
 
--- what it leaves, asks and sends on hearing
+-- its new state, requests and messages on a packet
 pub record HearsSafely (given : List (Numbered (List ℕ))) (kept : ℕ) (peer : PeerId) (hop : HopId) (stamp : ℕ)
     (r : Receiver) (result : ReceivingResult) : Type 0 where
   pub asks : AllByRecursion (IsSafeTake peer given) (receiver_asks peer hop stamp result.1)
@@ -303,7 +303,7 @@ hears_safely given kept peer hop stamp r (message.Custody from to last) safe = d
 hears_safely given kept peer hop stamp r
     (message.Refused from to number refusal) safe = deaf given kept peer hop stamp r
 
--- what it sends on the answer
+-- its message on the reply
 pub reply_safe : (given : List (Numbered (List ℕ))) (kept : ℕ) (r : Receiver) (number : ℕ) (a : TakeAnswer)
     → IsTrueAnswer kept number a → AllByRecursion (IsSafe given kept) (receiver_sends (take_reply r number a))
 reply_safe given kept r number answer.Taken is = (is, tt)
@@ -312,7 +312,7 @@ reply_safe given kept r number (answer.Refused (Gap expected)) is =
     either (expected == 0) None (custody_message r (expected - 1))
     (λ a. AllByRecursion (IsSafe given kept) (receiver_sends a)) tt (omega (arith, is), tt)
 reply_safe given kept r number (answer.Refused refusal) is =
-    either (is_told refusal) (refusal_message r number refusal) None
+    either (is_reported_refusal refusal) (refusal_message r number refusal) None
     (λ a. AllByRecursion (IsSafe given kept) (receiver_sends a)) (tt, tt) tt
 reply_safe given kept r number answer.Other is = tt
 
@@ -323,11 +323,11 @@ reply_asks_none peer hop stamp r number (answer.Already last) = refl
 reply_asks_none peer hop stamp r number (answer.Refused (Gap expected)) =
     either (expected == 0) None (custody_message r (expected - 1)) (λ a. receiver_asks peer hop stamp a ≡ []) refl refl
 reply_asks_none peer hop stamp r number (answer.Refused refusal) =
-    either (is_told refusal) (refusal_message r number refusal) None
+    either (is_reported_refusal refusal) (refusal_message r number refusal) None
     (λ a. receiver_asks peer hop stamp a ≡ []) refl refl
 reply_asks_none peer hop stamp r number answer.Other = refl
 
--- what it leaves, asks and sends on the answer to its Take
+-- its new state, requests and messages on the reply to its Take
 pub record AnswersSafely (given : List (Numbered (List ℕ))) (kept : ℕ) (peer : PeerId) (hop : HopId) (stamp : ℕ)
     (result : ReceivingResult) : Type 0 where
   pub asks : receiver_asks peer hop stamp result.1 ≡ []

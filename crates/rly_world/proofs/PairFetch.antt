@@ -1,4 +1,4 @@
--- What a Fetch gives is what was picked under its number.
+-- A Fetch returns the datagram that was picked under its number.
 use Rattle.std.proofs.Common.{ℕ, ◌≡◌, ◌+◌, ◌-◌, ◌<◌, Bool, true, false, cond, not, List, [], ◌∷◌}
 use Rattle.std.proofs.Common.{length, get_or, map, refl, arith, sym, ◌∙◌, ap, subst, Option, Some, None}
 use Rattle.std.proofs.Common.{Result, Err}
@@ -23,14 +23,14 @@ use Rattle.rly_machine.specs.State.{State, HopState, has_hop, hop_at, is_among, 
 use Rattle.rly_machine.specs.Step.{step}
 use Rattle.rly_machine.specs.Take.{take_refusal}
 use Rattle.rly_world.proofs.PairRuns.{Flows, either_way, length-borne, length-borne_by}
-use Rattle.rly_world.specs.PairPayloads.{Numbered, borne, borne_by}
+use Rattle.rly_world.specs.PairPayloads.{Numbered, number_and_payload, borne_by}
 
--- a payload and its limit are in a list under a number: at its place, counted from 1
+-- a payload and its limit are in a list under a number: at that position, counted from 1
 pub record IsUnder {P : Type 0} (xs : List (Numbered P)) (number limit : ℕ) (payload : P) : Type 0 where
   pub counted : 0 < number
   pub found : slice_get xs (number - 1) ≡ Some (record { number = number; limit = limit; payload = payload })
 
--- no command adds a hop or takes one away
+-- no command adds or removes a hop
 hops_step : {P : Type 0} (len : P → ℕ) (s : State P) (command : Command P)
     → length (step len s command).0.hops ≡ length s.hops
 hops_step len s (Take from number to stamp limit payload) =
@@ -53,36 +53,36 @@ pub hop_stays : {P : Type 0} (len : P → ℕ) (s : State P) (commands : List (C
     → has_hop s hop ≡ true → has_hop (fold len s commands) hop ≡ true
 hop_stays len s commands hop there = ap (λ n. is_among n hop.0) (hops_fold len s commands) ∙ there
 
--- as many were picked as were released and are in flight
+-- the number picked is the number released plus the number in flight
 picked_count : {P : Type 0} (h : HopState P) (xs : List (Numbered P)) → Flows new_hop h xs
     → length xs ≡ h.released + length h.flight
 picked_count {P} h xs flows =
-    let same : length (borne_by h.flight) ≡ length (map borne xs) - (h.released - 0) =
-    ap length flows.flight ∙ length-drop (h.released - 0) (map borne xs) in
+    let same : length (borne_by h.flight) ≡ length (map number_and_payload xs) - (h.released - 0) =
+    ap length flows.flight ∙ length-drop (h.released - 0) (map number_and_payload xs) in
     omega (arith, length-borne_by h.flight, same, length-borne xs, flows.within)
 
--- what is in flight at a place is that of the pick after so many released
+-- the item at a position in flight is that of the pick with that number after the released ones
 flight_at : {P : Type 0} (h : HopState P) (xs : List (Numbered P)) (i : ℕ) (d : ℕ × P) → Flows new_hop h xs
-    → get_or (borne_by h.flight) i d ≡ get_or (map borne xs) (h.released + i) d
+    → get_or (borne_by h.flight) i d ≡ get_or (map number_and_payload xs) (h.released + i) d
 flight_at {P} h xs i d flows =
-    let all : List (ℕ × P) = map borne xs in
+    let all : List (ℕ × P) = map number_and_payload xs in
     ap (λ (l : List (ℕ × P)). get_or l i d) flows.flight
     ∙ get_or-drop (h.released - 0) all i d
     ∙ ap (λ n. get_or all n d) (let e : h.released - 0 + i ≡ h.released + i = omega arith in e)
 
--- what a Fetch gives was picked
+-- the result of a Fetch was picked
 under_of : {P : Type 0} (xs : List (Numbered P)) (k limit : ℕ) (payload : P)
     → ((k : ℕ) (x : Numbered P) → slice_get xs k ≡ Some x → x.number ≡ k + 1)
-    → k < length xs → get_or (map borne xs) k (limit, payload) ≡ (limit, payload) → IsUnder xs (k + 1) limit payload
+    → k < length xs → get_or (map number_and_payload xs) k (limit, payload) ≡ (limit, payload) → IsUnder xs (k + 1) limit payload
 under_of {P} xs k limit payload numbered below at =
     let d : Numbered P = record { number = k + 1; limit = limit; payload = payload } in
     let one : Numbered P = get_or xs k d in
     let there : slice_get xs k ≡ Some (get_or xs k d) = slice_get-get_or xs k d below in
     let number_is : (get_or xs k d).number ≡ k + 1 = numbered k (get_or xs k d) there in
-    let in_map : slice_get (map borne xs) k ≡ Some (borne (get_or xs k d)) =
-    slice_get-map (borne {P = P}) xs k ∙ ap (λ (o : Option (Numbered P)). option_map (borne {P = P}) o) there in
-    let same : borne (get_or xs k d) ≡ (limit, payload) =
-    sym (get_or_from_slice_get (map borne xs) k (borne (get_or xs k d)) (limit, payload) in_map) ∙ at in
+    let in_map : slice_get (map number_and_payload xs) k ≡ Some (number_and_payload (get_or xs k d)) =
+    slice_get-map (number_and_payload {P = P}) xs k ∙ ap (λ (o : Option (Numbered P)). option_map (number_and_payload {P = P}) o) there in
+    let same : number_and_payload (get_or xs k d) ≡ (limit, payload) =
+    sym (get_or_from_slice_get (map number_and_payload xs) k (number_and_payload (get_or xs k d)) (limit, payload) in_map) ∙ at in
     record {
       counted = omega arith;
       found = ap (slice_get xs) (let e : k + 1 - 1 ≡ k = omega arith in e) ∙ there
@@ -99,7 +99,7 @@ not_refused : (b : Bool) (refusal : Refusal) (rest : Result (Item (List ℕ)) Re
 not_refused true refusal rest payload limit is = absurd (let e : Refused refusal ≡ Bytes payload limit = is in cc)
 not_refused false refusal rest payload limit is = (refl, is)
 
--- what an item bears, with the type that `borne_by` gives it
+-- the payload and limit of an item, with the type of `borne_by`
 abbrev borne_item : Item (List ℕ) → ℕ × List ℕ
 borne_item item = (item.limit, item.payload)
 
@@ -125,12 +125,12 @@ fetched_is_picked s hop number payload limit xs flows is =
     let sent : number < (hop_at s hop).released + length (hop_at s hop).flight + 1 = leb-false _ _ b.0 in
     let kept : (hop_at s hop).released < number = leb-false _ _ c.0 in
     let both : ℕ × List ℕ = (limit, payload) in
-    let all : List (ℕ × List ℕ) = map borne xs in
+    let all : List (ℕ × List ℕ) = map number_and_payload xs in
     let given = item_given (slice_get (hop_at s hop).flight (number - (hop_at s hop).released - 1)) payload limit c.1 in
     let in_flight : slice_get (borne_by (hop_at s hop).flight)
     (number - (hop_at s hop).released - 1) ≡ Some (limit, payload) =
     slice_get-map borne_item (hop_at s hop).flight (number - (hop_at s hop).released - 1) ∙ given in
-    let at : get_or (map borne xs) (number - 1) (limit, payload) ≡ (limit, payload) =
+    let at : get_or (map number_and_payload xs) (number - 1) (limit, payload) ≡ (limit, payload) =
     ap (λ n. get_or all n both)
     (let e : number - 1 ≡ (hop_at s hop).released + (number - (hop_at s hop).released - 1) = omega
     (arith, kept) in e)
@@ -145,7 +145,7 @@ fetched_is_picked s hop number payload limit xs flows is =
 no_item : Item (List ℕ)
 no_item = record { id = 0; stamp = 0; limit = 0; payload = [] }
 
--- what was picked and isn't released is what a Fetch gives, with its limit
+-- a Fetch returns each picked datagram that isn't released, with its limit
 pub picked_is_fetched : (s : State (List ℕ)) (hop : HopId) (k : ℕ) (one : Numbered (List ℕ))
     (xs : List (Numbered (List ℕ)))
     → has_hop s hop ≡ true → Flows new_hop (hop_at s hop) xs → slice_get xs k ≡ Some one
@@ -157,17 +157,17 @@ picked_is_fetched s hop k one xs there flows found kept =
     let count = picked_count (hop_at s hop) xs flows in
     let flight : List (Item (List ℕ)) = (hop_at s hop).flight in
     let i : ℕ = one.number - (hop_at s hop).released - 1 in
-    let all : List (ℕ × List ℕ) = map borne xs in
-    let in_map : slice_get (map borne xs) k ≡ Some (borne one) =
-    slice_get-map (borne {P = List ℕ}) xs k
-    ∙ ap (λ (o : Option (Numbered (List ℕ))). option_map (borne {P = List ℕ}) o) found in
+    let all : List (ℕ × List ℕ) = map number_and_payload xs in
+    let in_map : slice_get (map number_and_payload xs) k ≡ Some (number_and_payload one) =
+    slice_get-map (number_and_payload {P = List ℕ}) xs k
+    ∙ ap (λ (o : Option (Numbered (List ℕ))). option_map (number_and_payload {P = List ℕ}) o) found in
     let at : get_or (borne_by (hop_at s hop).flight)
-    (one.number - (hop_at s hop).released - 1) (borne one) ≡ borne one =
-    flight_at (hop_at s hop) xs (one.number - (hop_at s hop).released - 1) (borne one) flows
-    ∙ ap (λ n. get_or all n (borne one))
+    (one.number - (hop_at s hop).released - 1) (number_and_payload one) ≡ number_and_payload one =
+    flight_at (hop_at s hop) xs (one.number - (hop_at s hop).released - 1) (number_and_payload one) flows
+    ∙ ap (λ n. get_or all n (number_and_payload one))
     (let e : (hop_at s hop).released + (one.number - (hop_at s hop).released - 1) ≡ k = omega
     (arith, kept, place) in e)
-    ∙ get_or_from_slice_get (map borne xs) k (borne one) (borne one) in_map in
+    ∙ get_or_from_slice_get (map number_and_payload xs) k (number_and_payload one) (number_and_payload one) in_map in
     let within : one.number - (hop_at s hop).released - 1 < length (hop_at s hop).flight = omega
     (arith, kept, place, below, count) in
     let there_is : slice_get (hop_at s hop).flight (one.number - (hop_at s hop).released - 1) ≡ Some
@@ -179,9 +179,9 @@ picked_is_fetched s hop k one xs there flows found kept =
     slice_get-map borne_item (hop_at s hop).flight (one.number - (hop_at s hop).released - 1)
     ∙ ap (option_map borne_item) there_is in
     let same : borne_item (get_or (hop_at s hop).flight (one.number - (hop_at s hop).released - 1) no_item)
-    ≡ borne one =
+    ≡ number_and_payload one =
     sym (get_or_from_slice_get (borne_by (hop_at s hop).flight) (one.number - (hop_at s hop).released - 1)
-    (borne_item (get_or (hop_at s hop).flight (one.number - (hop_at s hop).released - 1) no_item)) (borne one)
+    (borne_item (get_or (hop_at s hop).flight (one.number - (hop_at s hop).released - 1) no_item)) (number_and_payload one)
     in_flight) ∙ at in
     let given = ap (λ (o : Option (Item (List ℕ))). fetch_reply (ok_or o NotInFlight)) there_is
     ∙ ap (λ (q : ℕ × List ℕ). Bytes q.1 q.0) same in

@@ -1,4 +1,4 @@
--- What two relays keep over every event.
+-- The invariant of two relays.
 use Rattle.std.proofs.Common.{ℕ, ◌≡◌, ◌<◌, Bool, true, false, ◌==◌, nat_le, cond}
 use Rattle.std.proofs.Common.{if◌then◌else◌, inl, inr, List, [], ◌∷◌, ◌++◌, length, map, set}
 use Rattle.std.proofs.Common.{refl, arith, sym, ◌∙◌, ap, subst, Option, Some, None, append_assoc}
@@ -24,7 +24,7 @@ use Rattle.rly_machine.specs.declared.reply.Reply.{Reply}
 use Rattle.rly_world.specs.PairCores.{is_for_receiver, is_for_sender, receiver_asks, receiver_sends, sender_asks}
 use Rattle.rly_world.specs.PairCores.{sender_event, sender_sends, take_answer}
 use Rattle.rly_world.specs.PairEnd.{Asked, End, Replied, with_asked, with_crash, with_made}
-use Rattle.rly_world.specs.PairEnd.{with_other, with_told}
+use Rattle.rly_world.specs.PairEnd.{with_other, end_after_answer}
 use Rattle.rly_world.specs.PairPayloads.{Numbered}
 use Rattle.rly_world.specs.PairWorld.{IsPair, PairEvent, PairSetup, PairWorld, Turns, Timeout, FetchesAhead, PicksAhead, UpperHears}
 use Rattle.rly_world.specs.PairWorld.{LowerHears, UpperMakes, LowerMakes, UpperAnswers, LowerAnswers, UpperServes}
@@ -43,20 +43,20 @@ use Rattle.rly_world.proofs.PairUpper.{IsUpper, event_told, given_by, upper_cras
 use Rattle.rly_world.proofs.PairUpper.{upper_served, upper_told}
 use Rattle.rly_world.proofs.PairUpper as up
 
--- what the upper has given and the lower has taken, both for good
+-- the datagrams that the upper has durably given and the lower has durably taken
 abbrev given_in : PairWorld → List (Numbered (List ℕ))
 given_in w = given_by w.setup.hop w.upper
 
 abbrev kept_in : PairWorld → ℕ
 kept_in w = kept_by w.setup.peer w.lower
 
--- each end keeps what it has to, and no packet says what either could lose
+-- each end keeps its invariant, and no packet has anything that either could lose
 pub record Holds (w : PairWorld) : Type 0 where
   pub upper : IsUpper w.setup.hop (kept_by w.setup.peer w.lower) w.upper w.sender
   pub lower : IsLower w.setup.peer (given_by w.setup.hop w.upper) w.lower w.receivers
   pub packets : AllByRecursion (IsSafe (given_by w.setup.hop w.upper) (kept_by w.setup.peer w.lower)) w.packets
 
--- one end goes on
+-- one end makes a step
 upper_goes_on : (w : PairWorld) (e : End) (s : Sender) → Holds w → up.GoesOn w.setup.hop (kept_in w) s (given_in w) e
     → Holds (record w { upper = e; sender = s })
 upper_goes_on w e s h on = record {
@@ -77,7 +77,7 @@ lower_goes_on w e receivers h on = record {
       (prefix_all (given_in w)) on.1) w.packets h.packets;
 }
 
--- messages that are safe are sent, or not
+-- safe messages are sent, or not
 sent_safely : (given : List (Numbered (List ℕ))) (kept : ℕ) (is_sent : Bool) (messages : List (Message (List ℕ)))
     → AllByRecursion (IsSafe given kept) messages → AllByRecursion (IsSafe given kept) (unless_failed is_sent messages)
 sent_safely given kept true messages safe = safe
@@ -136,9 +136,9 @@ upper_answering w is_sent (r ∷ rest) is h =
       released = h.upper.released;
     } in
     let told = upper_told w.setup.hop (kept_in w) e w.sender r.reply r.position replied.0.position still in
-    let after : PairWorld = record w { upper = with_told e r.reply r.position } in
+    let after : PairWorld = record w { upper = end_after_answer e r.reply r.position } in
     let event : OutEvent (List ℕ) = sender_event r.call.ask r.reply in
-    sender_moves after 0 is_sent event (upper_goes_on w (with_told e r.reply r.position) w.sender h told)
+    sender_moves after 0 is_sent event (upper_goes_on w (end_after_answer e r.reply r.position) w.sender h told)
     (event_later (given_in after) (given_in after) 0 (kept_in after) (prefix_all (given_in after)) (omega arith) event
     (event_told w.setup.hop e r replied.0))
 
@@ -174,7 +174,7 @@ other_numbers core other (an ∷ asks) differ =
     (map (λ (an : Ask). let c : Asked = record { core = core; ask = an } in c) asks)) (ne_eqb core other differ)
     ∙ other_numbers core other asks differ
 
--- one core goes on
+-- one core makes a step
 own_pending : (receivers : List Receiver) (core : ℕ) (r : Receiver) → core < length receivers
     → pending_at (set receivers core r) core ≡ waiting r.pending
 own_pending receivers core r within = ap (λ (x : Receiver). waiting x.pending)
@@ -229,7 +229,7 @@ lower_hearing w k core hop stamp (Some r) (Some m) there is h =
       packets = all_append (IsSafe (given_in w) (kept_in w)) w.packets (receiver_sends result.1) h.packets hears.sends;
     }
 
--- a core waits for the number of the Take that is answered, and for no other
+-- a core waits for the number of the Take with this reply, and for no other
 waits_for : (o : Option ℕ) (number : ℕ) (rest : List ℕ) → number ∷ rest ≡ waiting o → (o ≡ Some number) × (rest ≡ [])
 waits_for None number rest is = absurd (cc)
 waits_for (Some n) number rest is =
@@ -237,7 +237,7 @@ waits_for (Some n) number rest is =
     let others : rest ≡ [] = (cc) in
     (ap (λ (x : ℕ). let o : Option ℕ = Some x in o) (sym first), others)
 
--- the Take that is answered
+-- the Take with this reply
 answered_take : (kept : ℕ) (an : Ask) (r : Reply) → low.IsTrueTake kept an r → (number : ℕ)
     × (take_number an ≡ number ∷ []) × IsTrueAnswer kept number (take_answer r)
 answered_take kept (ask.Command (Take from number hop stamp limit payload)) r is = (number, refl, is)
@@ -251,7 +251,7 @@ none_asked e core asks none =
     ap (λ (l : List Ask). let x : End = record e { asked = e.asked ++ map wait l } in x) none
     ∙ ap (λ (l : List Asked). let x : End = record e { asked = l } in x) (append-nil e.asked)
 
--- the answer ends the wait of its core
+-- the reply ends the wait of its core
 pending_after : (receivers : List Receiver) (r : Replied) (it left : Receiver) (number : ℕ) (calls : List Asked)
     → slice_get receivers r.call.core ≡ Some it → take_number r.call.ask ≡ number ∷ []
     → ((core : ℕ) → numbers_at core (r.call ∷ calls) ≡ pending_at receivers core) → left.pending ≡ None
@@ -278,7 +278,7 @@ pending_after receivers r it left number calls there asks pending none =
 answered_by : (w : PairWorld) (is_sent : Bool) (r : Replied) (rest : List Replied) (o : Option Receiver)
     → slice_get w.receivers r.call.core ≡ o → w.lower.replied ≡ r ∷ rest → Holds w
     → Holds (receiver_answered
-    (record w { lower = with_told (record w.lower { replied = rest }) r.reply r.position }) r.call.core is_sent r o)
+    (record w { lower = end_after_answer (record w.lower { replied = rest }) r.reply r.position }) r.call.core is_sent r o)
 answered_by w is_sent r rest None there is h =
     let replied : AllByRecursion (low.IsTrueReply w.setup.peer w.lower.params w.lower.accepted) (r ∷ rest) = subst
     (AllByRecursion (low.IsTrueReply w.setup.peer w.lower.params w.lower.accepted)) is h.lower.replied in
@@ -306,7 +306,7 @@ answered_by w is_sent r rest (Some it) there is h =
     ∙ h.lower.pending core in
     let no_hop : HopId = record { 0 = 0 } in
     let e : End = record w.lower { replied = rest } in
-    let after : End = with_told e r.reply r.position in
+    let after : End = end_after_answer e r.reply r.position in
     let result : ReceivingResult = receiving_step it (in_event.Answered (take_answer r.reply)) in
     let waits = pending_after w.receivers r it (record it { pending = None }) take.0 calls there take.1 all refl in
     let truth = answer_told w.setup.peer e take.0 r.reply r.position take.2 in

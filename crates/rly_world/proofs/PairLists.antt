@@ -1,4 +1,4 @@
--- Beginnings of lists, and what holds of each element of a list.
+-- Prefixes of lists, and properties of each element of a list.
 use Rattle.std.proofs.Common.{ℕ, zero, suc, ◌≡◌, ◌<◌, ◌≤◌, List, [], ◌∷◌, ◌++◌, length, get_or, take, drop}
 use Rattle.std.proofs.Common.{refl, arith, sym, ◌∙◌, ap, subst, Some, append_assoc}
 use Rattle.std.specs.Prelude.{slice_get}
@@ -8,7 +8,7 @@ use Rattle.std.proofs.lemmas.List.{take-take}
 use Rattle.std.proofs.lemmas.Option.{get_or_from_slice_get, slice_get-get_or, slice_get_within}
 use Rattle.rly_world.specs.PairPayloads.{IsPrefix}
 
--- what is in a list is in each that it begins
+-- an element of a list is one of each list that it is a prefix of
 pub get_in_front : {X : Type 0} (xs rest : List X) {ys : List X} (k : ℕ) (x : X) → ys ≡ xs ++ rest
     → slice_get xs k ≡ Some x → slice_get ys k ≡ Some x
 get_in_front {X} xs rest k x is found =
@@ -40,7 +40,7 @@ prefix_take {X} m n xs below = (
 pub prefix_length : {X : Type 0} (xs ys : List X) → IsPrefix xs ys → length xs ≤ length ys
 prefix_length xs ys p = omega (arith, ap length p.1, length-append xs p.0)
 
--- one element more
+-- one more element
 goes_on : {X : Type 0} (xs ys rest : List X) (x : X) → ys ≡ xs ++ rest → slice_get ys (length xs) ≡ Some x
     → IsPrefix (xs ++ x ∷ []) ys
 goes_on {X} xs ys [] x is found =

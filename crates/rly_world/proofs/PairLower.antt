@@ -1,4 +1,5 @@
--- What the lower end keeps: what it took begins what was picked for it, and its answers say no more than it took.
+-- The invariant of the lower end: the datagrams that it took are a prefix of those picked for it, and its replies
+-- acknowledge only those.
 use Rattle.std.proofs.Common.{ℕ, zero, suc, ◌≡◌, ◌+◌, ◌-◌, ◌^◌, ◌≤◌, Bool, true, false, true≢false, ◌==◌, nat_le}
 use Rattle.std.proofs.Common.{nat_lt, not, max, cond, if◌then◌else◌, ◌⊎◌, inl, inr, List, [], ◌∷◌, ◌++◌}
 use Rattle.std.proofs.Common.{length, map, get_or, set, take, replicate, refl, arith, sym, ◌∙◌, ap, subst, Option}
@@ -30,10 +31,10 @@ use Rattle.rly_machine.proofs.Folding.{fold_append}
 use Rattle.rly_machine.proofs.RealReplies.{unaccepted}
 use Rattle.rly_machine.proofs.Refusals.{among, may_take}
 use Rattle.rly_world.specs.PairCores.{is_for_receiver, take_answer}
-use Rattle.rly_world.specs.PairEnd.{Asked, End, Outcome, Replied, Done, Unsure, Broken, DeviceRead, OutOfMemory}
-use Rattle.rly_world.specs.PairEnd.{accepted_after, after_call, harm_by, is_made, lasting, may_go, reply_at, reply_by}
-use Rattle.rly_world.specs.PairEnd.{state_of, told_by, with_crash, with_made, with_other, with_told}
-use Rattle.rly_world.specs.PairPayloads.{IsPrefix, Numbered, taken, taken_by}
+use Rattle.rly_world.specs.PairEnd.{Asked, End, CallFate, Replied, Done, Unsure, Broken, DeviceRead, OutOfMemory}
+use Rattle.rly_world.specs.PairEnd.{accepted_after, after_call, harm_by, is_made, durable_commands, may_go, reply_at, reply_by}
+use Rattle.rly_world.specs.PairEnd.{state_of, reported_by, with_crash, with_made, with_other, end_after_answer}
+use Rattle.rly_world.specs.PairPayloads.{IsPrefix, Numbered, taken_payloads, taken_by}
 use Rattle.rly_world.proofs.PairCoreSteps.{IsSafeTake, IsTrueAnswer, answer_later, either, either_known, take_later}
 use Rattle.rly_world.proofs.PairCoreSteps.{take_number, waiting}
 use Rattle.rly_world.proofs.PairFetch.{IsUnder}
@@ -42,15 +43,15 @@ use Rattle.rly_world.proofs.PairLists.{prefix_of_take, prefix_take}
 use Rattle.rly_world.proofs.PairRuns.{takes_from_new, takes_step, taken_append}
 use Rattle.rly_world.proofs.PairUpper.{grown, more_cases, told_within}
 
--- what was taken by more commands goes on from what was taken before
+-- the datagrams taken by more commands extend those taken before
 pub taken_front : (peer : PeerId) (s : State (List ℕ)) (xs ys : List (Command (List ℕ))) → IsPrefix xs ys
-    → IsPrefix (taken length peer s xs) (taken length peer s ys)
+    → IsPrefix (taken_payloads length peer s xs) (taken_payloads length peer s ys)
 taken_front peer s xs ys p =
-    (taken length peer (fold length s xs) p.0, ap (taken length peer s) p.1 ∙ taken_append length peer s xs p.0)
+    (taken_payloads length peer (fold length s xs) p.0, ap (taken_payloads length peer s) p.1 ∙ taken_append length peer s xs p.0)
 
--- how many an end has taken for good
+-- the number that an end has durably taken
 abbrev pub kept_by : PeerId → End → ℕ
-kept_by peer e = length (taken length peer (new_state e.params) (lasting e))
+kept_by peer e = length (taken_payloads length peer (new_state e.params) (durable_commands e))
 
 -- the numbers of the Takes of one core, and the one that it waits for
 abbrev pub numbers_at : ℕ → List Asked → List ℕ
@@ -63,7 +64,7 @@ idle = record { own = record { 0 = 0 }; peer = record { 0 = 0 }; pending = None 
 abbrev pub pending_at : List Receiver → ℕ → List ℕ
 pending_at receivers core = waiting (get_or receivers core idle).pending
 
--- an answer that is due says no more than was taken by its position
+-- a pending reply acknowledges only datagrams taken by its position
 abbrev pub IsTrueTake : ℕ → Ask → Reply → Type 0
 IsTrueTake kept (ask.Command (Take from number hop stamp limit payload)) r = IsTrueAnswer kept number (take_answer r)
 IsTrueTake kept (ask.Command (Pick hop now)) r = ⊥
@@ -73,12 +74,12 @@ IsTrueTake kept (ask.Query q) r = ⊥
 pub record IsTrueReply (peer : PeerId) (params : Params) (accepted : List (Command (List ℕ)))
     (r : Replied) : Type 0 where
   pub position : r.position ≤ length accepted
-  pub told : IsTrueTake (length (taken length peer (new_state params) (take r.position accepted))) r.call.ask r.reply
+  pub told : IsTrueTake (length (taken_payloads length peer (new_state params) (take r.position accepted))) r.call.ask r.reply
 
 abbrev pub calls_of : End → List Asked
 calls_of e = map (λ (r : Replied). r.call) e.replied ++ e.asked
 
--- the lower end, where the upper has given this for good
+-- the lower end, if the upper has durably given these
 pub record IsLower (peer : PeerId) (given : List (Numbered (List ℕ))) (e : End)
     (receivers : List Receiver) : Type 0 where
   pub there : has_peer (new_state {P = List ℕ} e.params) peer ≡ true
@@ -86,7 +87,7 @@ pub record IsLower (peer : PeerId) (given : List (Numbered (List ℕ))) (e : End
   pub asked : AllByRecursion (λ c. IsSafeTake peer given c.ask) e.asked
   pub replied : AllByRecursion (IsTrueReply peer e.params e.accepted) e.replied
   pub pending : (core : ℕ) → numbers_at core (calls_of e) ≡ pending_at receivers core
-  pub order : IsPrefix (taken length peer (new_state e.params) e.accepted) given
+  pub order : IsPrefix (taken_payloads length peer (new_state e.params) e.accepted) given
 
 pub lower_later : (peer : PeerId) (given more : List (Numbered (List ℕ))) (e : End) (receivers : List Receiver)
     → IsPrefix given more → IsLower peer given e receivers → IsLower peer more e receivers
@@ -97,12 +98,12 @@ lower_later peer given more e receivers p low = record {
       (λ c. take_later peer given more p c.ask) e.asked low.asked;
   replied = low.replied;
   pending = low.pending;
-  order = prefix_again (taken length peer (new_state e.params) e.accepted) given more low.order p;
+  order = prefix_again (taken_payloads length peer (new_state e.params) e.accepted) given more low.order p;
 }
 
--- ---- what a command takes
+-- ---- the datagrams that a command takes
 
--- a Take of the peer takes what was picked under its number
+-- a Take of the peer takes the datagram that was picked under its number
 abbrev pub TakesGiven : PeerId → List (Numbered (List ℕ)) → Command (List ℕ) → Type 0
 TakesGiven peer given (Take from number hop stamp limit payload) = from.0 ≡ peer.0 → IsUnder given number limit payload
 TakesGiven peer given (Pick hop now) = Unit {0}
@@ -127,7 +128,7 @@ others_take peer given (ask.Command (Pick hop now)) other = tt
 others_take peer given (ask.Command (Release hop number)) other = tt
 others_take peer given (ask.Query q) other = tt
 
--- what one command took: nothing, or what was picked
+-- one command took nothing, or a picked datagram
 record IsGiven (given more : List (Numbered (List ℕ))) : Type 0 where
   one : (more ≡ []) ⊎ ((x : Numbered (List ℕ)) × (more ≡ x ∷ []) × (slice_get given (x.number - 1) ≡ Some x))
 
@@ -161,16 +162,16 @@ is_given peer given (Release hop number) r takes = record { one = inl refl }
 order_more : (peer : PeerId) (given : List (Numbered (List ℕ))) (params : Params) (accepted : List (Command (List ℕ)))
     (c : Command (List ℕ))
     → has_peer (new_state {P = List ℕ} params) peer ≡ true → TakesGiven peer given c
-    → IsPrefix (taken length peer (new_state params) accepted) given
-    → IsPrefix (taken length peer (new_state params) (accepted ++ c ∷ [])) given
+    → IsPrefix (taken_payloads length peer (new_state params) accepted) given
+    → IsPrefix (taken_payloads length peer (new_state params) (accepted ++ c ∷ [])) given
 order_more peer given params accepted c there takes order =
     let s : State (List ℕ) = fold length (new_state params) accepted in
-    let old : List (Numbered (List ℕ)) = taken length peer (new_state params) accepted in
+    let old : List (Numbered (List ℕ)) = taken_payloads length peer (new_state params) accepted in
     let more : List (Numbered (List ℕ)) = taken_by peer c (step length s c).1 in
     let found = among _ peer.0 there in
     let from_new = takes_from_new length params accepted peer there in
     let now = takes_step length (fold length (new_state params) accepted) c peer found.0 in
-    let all : taken length peer (new_state params) (accepted ++ c ∷ []) ≡ old ++ more =
+    let all : taken_payloads length peer (new_state params) (accepted ++ c ∷ []) ≡ old ++ more =
     taken_append length peer (new_state params) accepted (c ∷ []) ∙ ap (λ l. old ++ l) (append-nil more) in
     subst (λ (l : List (Numbered (List ℕ))). IsPrefix l given) (sym all)
     (elim (is_given peer given c (step length s c).1 takes).one [
@@ -178,7 +179,7 @@ order_more peer given params accepted c there takes order =
           (subst (λ (l : List (Numbered (List ℕ))). IsPrefix l given) (sym (append-nil old)) order)
       | inr one ↦ (let at = now.numbered 0 one.0 (ap (λ (l : List (Numbered (List ℕ))). slice_get l 0) one.1) in
           let last = from_new.last in
-          let place : one.0.number - 1 ≡ length (taken length peer (new_state params) accepted) = omega
+          let place : one.0.number - 1 ≡ length (taken_payloads length peer (new_state params) accepted) = omega
           (arith, at, last) in
           subst (λ (l : List (Numbered (List ℕ))). IsPrefix (old ++ l) given) (sym one.1)
           (prefix_more old given one.0 order (ap (slice_get given) (sym place) ∙ one.2)))
@@ -191,13 +192,13 @@ replied_grown : (peer : PeerId) (params : Params) (accepted more : List (Command
 replied_grown peer params accepted more r is = record {
   position = omega (arith, is.position, length-append accepted more);
   told = subst (λ (l : List (Command (List ℕ))). IsTrueTake
-      (length (taken length peer (new_state params) l)) r.call.ask r.reply)
+      (length (taken_payloads length peer (new_state params) l)) r.call.ask r.reply)
       (sym (take-append-le r.position accepted more is.position)) is.told;
 }
 
 lower_grown : (peer : PeerId) (given : List (Numbered (List ℕ))) (e : End) (receivers : List Receiver)
     (more : List (Command (List ℕ))) (harm : ℕ)
-    → IsPrefix (taken length peer (new_state e.params) (e.accepted ++ more)) given → IsLower peer given e receivers
+    → IsPrefix (taken_payloads length peer (new_state e.params) (e.accepted ++ more)) given → IsLower peer given e receivers
     → IsLower peer given (grown e more harm) receivers
 lower_grown peer given e receivers more harm order low = record {
   there = low.there;
@@ -214,24 +215,24 @@ takes_of : (peer : PeerId) (given : List (Numbered (List ℕ))) (an : Ask) (c : 
 takes_of peer given an c is takes = subst (AskTakesGiven peer given) is takes
 
 pub lower_called : (peer : PeerId) (given : List (Numbered (List ℕ))) (e : End) (receivers : List Receiver) (an : Ask)
-    (outcome : Outcome)
+    (outcome : CallFate)
     → AskTakesGiven peer given an → IsLower peer given e receivers
     → IsLower peer given (after_call e an outcome) receivers
 lower_called peer given e receivers an outcome takes low =
     more_cases (state_of e) an outcome (λ more. IsLower peer given (grown e more (harm_by outcome)) receivers)
     (lower_grown peer given e receivers [] (harm_by outcome)
-    (subst (λ (l : List (Command (List ℕ))). IsPrefix (taken length peer (new_state e.params) l) given)
+    (subst (λ (l : List (Command (List ℕ))). IsPrefix (taken_payloads length peer (new_state e.params) l) given)
     (sym (append-nil e.accepted)) low.order) low)
     (λ c is accepts. lower_grown peer given e receivers (c ∷ []) (harm_by outcome)
     (order_more peer given e.params e.accepted c low.there (takes_of peer given an c is takes) low.order) low)
 
-kept_called : (peer : PeerId) (e : End) (an : Ask) (outcome : Outcome) → e.told ≤ length e.accepted
+kept_called : (peer : PeerId) (e : End) (an : Ask) (outcome : CallFate) → e.told ≤ length e.accepted
     → kept_by peer (after_call e an outcome) ≡ kept_by peer e
 kept_called peer e an outcome told =
-    ap (λ (l : List (Command (List ℕ))). length (taken length peer (new_state e.params) l))
+    ap (λ (l : List (Command (List ℕ))). length (taken_payloads length peer (new_state e.params) l))
     (take-append-le e.told e.accepted (if is_made outcome then accepted_by an (reply_at e an) else []) told)
 
--- a check's reply says no more than was taken
+-- a check's reply acknowledges only taken datagrams
 record IsTrueCheck (kept number : ℕ) (o : Option Reply) : Type 0 where
   refuses : (r : Reply) → o ≡ Some r → IsTrueAnswer kept number (take_answer r)
 
@@ -282,7 +283,7 @@ answer_true s peer number hop stamp limit payload =
     (peer.0 - 1) number 0 (omega (arith, may.peer_from, may.peer_to)) in
     omega (arith, last)))
 
--- the state once a command was made, accepted or not
+-- the state after a command was made, accepted or not
 state_made : (s : State (List ℕ)) (c : Command (List ℕ))
     → fold length s (accepted_by (ask.Command c) (step length s c).1) ≡ (step length s c).0
 state_made s c =
@@ -295,9 +296,9 @@ state_made s c =
 zero_more : (n : ℕ) → 0 + n ≡ n
 zero_more n = omega arith
 
-due_true : (peer : PeerId) (given : List (Numbered (List ℕ))) (e : End) (an : Ask) (outcome : Outcome)
+due_true : (peer : PeerId) (given : List (Numbered (List ℕ))) (e : End) (an : Ask) (outcome : CallFate)
     → has_peer (new_state {P = List ℕ} e.params) peer ≡ true → IsSafeTake peer given an
-    → IsTrueTake (length (taken length peer (new_state e.params) (accepted_after e an outcome))) an
+    → IsTrueTake (length (taken_payloads length peer (new_state e.params) (accepted_after e an outcome))) an
     (reply_by outcome (reply_at e an))
 due_true peer given e (ask.Command (Take from number hop stamp limit payload)) Done there safe =
     let c : Command (List ℕ) = Take from number hop stamp limit payload in
@@ -309,10 +310,10 @@ due_true peer given e (ask.Command (Take from number hop stamp limit payload)) D
     fold_append length (new_state e.params) e.accepted (accepted_by (ask.Command c) (step length (state_of e) c).1)
     ∙ state_made (state_of e) c in
     let last : last_at (step length (state_of e) (Take from number hop stamp limit payload)).0 peer ≡ length
-    (taken length peer (new_state e.params)
+    (taken_payloads length peer (new_state e.params)
     (accepted_after e (ask.Command (Take from number hop stamp limit payload)) Done)) =
     ap (λ (s : State (List ℕ)). last_at s peer) (sym whole) ∙ (takes_from_new length e.params all peer there).last
-    ∙ zero_more (length (taken length peer (new_state e.params) all)) in
+    ∙ zero_more (length (taken_payloads length peer (new_state e.params) all)) in
     subst (λ (kept : ℕ). IsTrueAnswer kept number
     (take_answer (step length (state_of e) (Take from number hop stamp limit payload)).1)) last
     (subst (λ (p : PeerId). IsTrueAnswer
@@ -327,14 +328,14 @@ due_true peer given e (ask.Command (Pick hop now)) outcome there safe = absurd s
 due_true peer given e (ask.Command (Release hop number)) outcome there safe = absurd safe
 due_true peer given e (ask.Query q) outcome there safe = absurd safe
 
--- of as many as the answer tells of
-due_told : (peer : PeerId) (given : List (Numbered (List ℕ))) (e : End) (an : Ask) (outcome : Outcome)
+-- as many as the reply acknowledges
+due_told : (peer : PeerId) (given : List (Numbered (List ℕ))) (e : End) (an : Ask) (outcome : CallFate)
     → has_peer (new_state {P = List ℕ} e.params) peer ≡ true → IsSafeTake peer given an
-    → IsTrueTake (length (taken length peer (new_state e.params)
-    (take (told_by outcome (length (accepted_after e an outcome))) (accepted_after e an outcome)))) an
+    → IsTrueTake (length (taken_payloads length peer (new_state e.params)
+    (take (reported_by outcome (length (accepted_after e an outcome))) (accepted_after e an outcome)))) an
     (reply_by outcome (reply_at e an))
 due_told peer given e an Done there safe =
-    subst (λ (l : List (Command (List ℕ))). IsTrueTake (length (taken length peer (new_state e.params) l)) an
+    subst (λ (l : List (Command (List ℕ))). IsTrueTake (length (taken_payloads length peer (new_state e.params) l)) an
     (reply_by Done (reply_at e an))) (sym (take-length (accepted_after e an Done)))
     (due_true peer given e an Done there safe)
 due_told peer given e (ask.Command (Take from number hop stamp limit payload)) (Unsure stands) there safe = tt
@@ -354,12 +355,12 @@ due_told peer given e (ask.Query q) Broken there safe = absurd safe
 due_told peer given e (ask.Query q) DeviceRead there safe = absurd safe
 due_told peer given e (ask.Query q) OutOfMemory there safe = absurd safe
 
--- an end that keeps what it has to, and has taken no less than before for good
+-- an end that keeps its invariant, and has durably taken at least as many as before
 abbrev pub GoesOn : PeerId → List (Numbered (List ℕ)) → List Receiver → ℕ → End → Type 0
 GoesOn peer given receivers kept e = IsLower peer given e receivers × (kept ≤ kept_by peer e)
 
 pub lower_made : (peer : PeerId) (given : List (Numbered (List ℕ))) (e : End) (receivers : List Receiver)
-    (outcome : Outcome) (calls : List Asked) → e.asked ≡ calls
+    (outcome : CallFate) (calls : List Asked) → e.asked ≡ calls
     → IsLower peer given e receivers → GoesOn peer given receivers (kept_by peer e) (with_made e outcome calls)
 lower_made peer given e receivers outcome [] is low = (low, omega arith)
 lower_made peer given e receivers outcome (call ∷ calls) is low =
@@ -370,7 +371,7 @@ lower_made peer given e receivers outcome (call ∷ calls) is low =
     let due : Replied = record {
       call = call;
       reply = reply_by outcome (reply_at e call.ask);
-      position = told_by outcome (length (accepted_after e call.ask outcome));
+      position = reported_by outcome (length (accepted_after e call.ask outcome));
     } in
     let shown : Replied → Asked = λ r. r.call in
     let line : map (λ (r : Replied). r.call) (e.replied ++ due ∷ []) ++ calls ≡ map
@@ -400,7 +401,7 @@ lower_made peer given e receivers outcome (call ∷ calls) is low =
     )
     (low, omega arith)
 
--- ---- an answer is given
+-- ---- a reply is given
 
 told_safe : (peer : PeerId) (given : List (Numbered (List ℕ))) (e : End) (receivers : List Receiver) (told : ℕ)
     → told ≤ length e.accepted → e.told ≤ told → IsLower peer given e receivers
@@ -414,22 +415,22 @@ told_safe peer given e receivers told within more low = (
     pending = low.pending;
     order = low.order;
   },
-  prefix_length (taken length peer (new_state e.params) (take e.told e.accepted))
-      (taken length peer (new_state e.params) (take told e.accepted))
+  prefix_length (taken_payloads length peer (new_state e.params) (take e.told e.accepted))
+      (taken_payloads length peer (new_state e.params) (take told e.accepted))
       (taken_front peer (new_state e.params) (take e.told e.accepted) (take told e.accepted)
       (prefix_take e.told told e.accepted more)),
 )
 
 pub lower_told : (peer : PeerId) (given : List (Numbered (List ℕ))) (e : End) (receivers : List Receiver) (r : Reply)
     (position : ℕ) → position ≤ length e.accepted
-    → IsLower peer given e receivers → GoesOn peer given receivers (kept_by peer e) (with_told e r position)
+    → IsLower peer given e receivers → GoesOn peer given receivers (kept_by peer e) (end_after_answer e r position)
 lower_told peer given e receivers r position within low =
     either (is_failure r) e.told (max e.told position)
     (λ told. GoesOn peer given receivers (kept_by peer e) (record e { told = told }))
     (told_safe peer given e receivers e.told low.told (omega arith) low)
     (told_safe peer given e receivers (max e.told position) (omega (arith, low.told, within)) (omega arith) low)
 
--- what the core is told is then taken for good
+-- the datagrams in the core's event are then durably taken
 failed_answer : (kept number : ℕ) (r : Reply) → is_failure r ≡ true → IsTrueAnswer kept number (take_answer r)
 failed_answer kept number (reply.Taken id) fails = absurd (true≢false (sym fails))
 failed_answer kept number (reply.Already last) fails = absurd (true≢false (sym fails))
@@ -444,25 +445,25 @@ failed_answer kept number (reply.WindowIs first next) fails = tt
 failed_answer kept number (reply.Shown status) fails = tt
 
 pub answer_told : (peer : PeerId) (e : End) (number : ℕ) (r : Reply) (position : ℕ)
-    → IsTrueAnswer (length (taken length peer (new_state e.params) (take position e.accepted))) number (take_answer r)
-    → IsTrueAnswer (kept_by peer (with_told e r position)) number (take_answer r)
+    → IsTrueAnswer (length (taken_payloads length peer (new_state e.params) (take position e.accepted))) number (take_answer r)
+    → IsTrueAnswer (kept_by peer (end_after_answer e r position)) number (take_answer r)
 answer_told peer e number r position is =
     either_known (is_failure r) e.told (max e.told position)
-    (λ told. IsTrueAnswer (length (taken length peer (new_state e.params) (take told e.accepted))) number
+    (λ told. IsTrueAnswer (length (taken_payloads length peer (new_state e.params) (take told e.accepted))) number
     (take_answer r))
-    (λ fails. failed_answer (length (taken length peer (new_state e.params) (take e.told e.accepted))) number r fails)
-    (answer_later (length (taken length peer (new_state e.params) (take position e.accepted)))
-    (length (taken length peer (new_state e.params) (take (max e.told position) e.accepted))) number
-    (prefix_length (taken length peer (new_state e.params) (take position e.accepted))
-    (taken length peer (new_state e.params) (take (max e.told position) e.accepted))
+    (λ fails. failed_answer (length (taken_payloads length peer (new_state e.params) (take e.told e.accepted))) number r fails)
+    (answer_later (length (taken_payloads length peer (new_state e.params) (take position e.accepted)))
+    (length (taken_payloads length peer (new_state e.params) (take (max e.told position) e.accepted))) number
+    (prefix_length (taken_payloads length peer (new_state e.params) (take position e.accepted))
+    (taken_payloads length peer (new_state e.params) (take (max e.told position) e.accepted))
     (taken_front peer (new_state e.params) (take position e.accepted) (take (max e.told position) e.accepted)
     (prefix_take position (max e.told position) e.accepted (omega arith))))
     (take_answer r) is)
 
--- ---- another caller's call
+-- ---- another client's call
 
 pub lower_served : (peer : PeerId) (given : List (Numbered (List ℕ))) (e : End) (receivers : List Receiver) (an : Ask)
-    (outcome : Outcome) (is_answered : Bool) → is_for_receiver peer an ≡ false
+    (outcome : CallFate) (is_answered : Bool) → is_for_receiver peer an ≡ false
     → IsLower peer given e receivers
     → GoesOn peer given receivers (kept_by peer e) (with_other e an outcome is_answered)
 lower_served peer given e receivers an outcome is_answered other low =
@@ -470,12 +471,12 @@ lower_served peer given e receivers an outcome is_answered other low =
     let called = lower_called peer given e receivers an outcome (others_take peer given an other) low in
     let same = kept_called peer e an outcome low.told in
     either (may_go e an outcome)
-    (if is_answered then with_told after (reply_by outcome (reply_at e an)) (length after.accepted) else after) e
+    (if is_answered then end_after_answer after (reply_by outcome (reply_at e an)) (length after.accepted) else after) e
     (GoesOn peer given receivers (kept_by peer e))
-    (either is_answered (with_told after (reply_by outcome (reply_at e an)) (length after.accepted)) after
+    (either is_answered (end_after_answer after (reply_by outcome (reply_at e an)) (length after.accepted)) after
     (GoesOn peer given receivers (kept_by peer e))
     (subst (λ (kept : ℕ). GoesOn peer given receivers kept
-    (with_told after (reply_by outcome (reply_at e an)) (length after.accepted))) same
+    (end_after_answer after (reply_by outcome (reply_at e an)) (length after.accepted))) same
     (lower_told peer given after receivers (reply_by outcome (reply_at e an)) (length after.accepted)
     (omega arith) called))
     (called, omega (arith, same)))
@@ -492,7 +493,7 @@ pub lower_crashed : (peer : PeerId) (given : List (Numbered (List ℕ))) (e : En
     (count : ℕ) (new : Receiver) (n : ℕ) (opens : Bool) → e.told ≤ n → new.pending ≡ None
     → IsLower peer given e receivers → GoesOn peer given (replicate count new) (kept_by peer e) (with_crash e n opens)
 lower_crashed peer given e receivers count new n opens within none low =
-    let same = ap (λ (l : List (Command (List ℕ))). length (taken length peer (new_state e.params) l))
+    let same = ap (λ (l : List (Command (List ℕ))). length (taken_payloads length peer (new_state e.params) l))
     (take-take e.told n e.accepted within) in (
       record {
         there = low.there;
@@ -500,8 +501,8 @@ lower_crashed peer given e receivers count new n opens within none low =
         asked = tt;
         replied = tt;
         pending = λ core. sym (new_cores count core new none);
-        order = prefix_again (taken length peer (new_state e.params) (take n e.accepted))
-            (taken length peer (new_state e.params) e.accepted) given
+        order = prefix_again (taken_payloads length peer (new_state e.params) (take n e.accepted))
+            (taken_payloads length peer (new_state e.params) e.accepted) given
             (taken_front peer (new_state e.params) (take n e.accepted) e.accepted
             (prefix_of_take n e.accepted)) low.order;
       },

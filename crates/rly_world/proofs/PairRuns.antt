@@ -1,4 +1,4 @@
--- What was taken from a peer and what went into flight, over any row of commands.
+-- The datagrams taken from a peer and those that went into flight, over any list of commands.
 use Rattle.std.proofs.Common.{ℕ, ◌≡◌, ◌+◌, ◌-◌, ◌<◌, ◌≤◌, Bool, true, false, true≢false, cond, ◌⊎◌, inl, inr, List}
 use Rattle.std.proofs.Common.{[], ◌∷◌, ◌++◌, length, get_or, set, take, drop, map, max, min, refl, arith, sym, ◌∙◌, ap}
 use Rattle.std.proofs.Common.{subst, Option, Some, None, append_assoc, replicate}
@@ -9,7 +9,7 @@ use Rattle.std.proofs.lemmas.List.{get_or_append_left, get_or-set_other, get_or-
 use Rattle.std.proofs.lemmas.List.{get_or-replicate, length-map, length-replicate, length-take, map-append}
 use Rattle.std.proofs.lemmas.List.Sums.{prefix_len-le-length}
 use Rattle.std.proofs.lemmas.Option.{get_or_from_slice_get, slice_get-get_or, slice_get_within}
-use Rattle.rly_codel.specs.Cases.{Outcome}
+use Rattle.rly_codel.specs.Cases.{DequeueOutcome}
 use Rattle.rly_core.specs.declared.ids.HopId.{HopId}
 use Rattle.rly_core.specs.declared.ids.PeerId.{PeerId}
 use Rattle.rly_core.specs.declared.params.Params.{Params}
@@ -30,10 +30,10 @@ use Rattle.rly_machine.specs.State.{next_number}
 use Rattle.rly_machine.specs.Step.{step}
 use Rattle.rly_machine.proofs.RealReplies.{counted}
 use Rattle.rly_machine.proofs.Refusals.{among, may_pick, may_release, may_take}
-use Rattle.rly_world.specs.PairPayloads.{Numbered, borne, borne_by, picked, picked_by, taken}
+use Rattle.rly_world.specs.PairPayloads.{Numbered, number_and_payload, borne_by, picked_payloads, picked_by, taken_payloads}
 use Rattle.rly_world.specs.PairPayloads.{taken_by}
 
--- a command that a check refuses leaves the state, and its reply accepts nothing; another comes to what it leaves
+-- a command that fails a check leaves the state unchanged, and its reply doesn't accept; another has its own result
 pub either_way : {P : Type 0} (len : P → ℕ) (s : State P) (command : Command P) (refusal : Option Reply)
     (accepted : State P × Reply)
     → step len s command ≡ unless refusal s accepted
@@ -53,27 +53,27 @@ either_way {P} len s command (Some reply) accepted is M refused may =
     ] refl in
     subst (λ (r : State P × Reply). M r.0 r.1) (sym is) (refused reply refuses)
 
--- ---- one row after another
+-- ---- one list after another
 
 pub taken_append : {P : Type 0} (len : P → ℕ) (peer : PeerId) (s : State P) (front back : List (Command P))
-    → taken len peer s (front ++ back) ≡ taken len peer s front ++ taken len peer (fold len s front) back
+    → taken_payloads len peer s (front ++ back) ≡ taken_payloads len peer s front ++ taken_payloads len peer (fold len s front) back
 taken_append len peer s [] back = refl
 taken_append {P} len peer s (command ∷ front) back =
     let now : List (Numbered P) = taken_by peer command (step len s command).1 in
     let after : State P = (step len s command).0 in
     ap (λ l. taken_by peer command (step len s command).1 ++ l) (taken_append len peer after front back)
-    ∙ sym (append_assoc now (taken len peer after front) (taken len peer (fold len after front) back))
+    ∙ sym (append_assoc now (taken_payloads len peer after front) (taken_payloads len peer (fold len after front) back))
 
 pub picked_append : {P : Type 0} (len : P → ℕ) (hop : HopId) (s : State P) (front back : List (Command P))
-    → picked len hop s (front ++ back) ≡ picked len hop s front ++ picked len hop (fold len s front) back
+    → picked_payloads len hop s (front ++ back) ≡ picked_payloads len hop s front ++ picked_payloads len hop (fold len s front) back
 picked_append len hop s [] back = refl
 picked_append {P} len hop s (command ∷ front) back =
     let now : List (Numbered P) = picked_by hop (hop_at s hop) command (step len s command).1 in
     let after : State P = (step len s command).0 in
     ap (λ l. picked_by hop (hop_at s hop) command (step len s command).1 ++ l) (picked_append len hop after front back)
-    ∙ sym (append_assoc now (picked len hop after front) (picked len hop (fold len after front) back))
+    ∙ sym (append_assoc now (picked_payloads len hop after front) (picked_payloads len hop (fold len after front) back))
 
--- ---- what is taken from a peer
+-- ---- the datagrams taken from a peer
 
 -- a command takes nothing, or the next number
 pub record Takes {P : Type 0} (before after : ℕ) (more : List (Numbered P)) : Type 0 where
@@ -101,7 +101,7 @@ takes_one {P} n number limit payload next =
           omega (arith, number_is, next, first));
     }
 
--- a reply that accepts nothing takes nothing and picks nothing
+-- a reply that doesn't accept takes nothing and picks nothing
 none_taken : {P : Type 0} (peer : PeerId) (command : Command P) (reply : Reply) → is_accepted reply ≡ false
     → taken_by peer command reply ≡ []
 none_taken peer (Take from number hop stamp limit payload) (Taken id) refuses = absurd (true≢false refuses)
@@ -132,7 +132,7 @@ none_picked hop h (Pick to now) (Refused refusal) refuses = refl
 none_picked hop h (Take from number to stamp limit payload) reply refuses = refl
 none_picked hop h (Release to number) reply refuses = refl
 
--- the peer that a Take names has the new last number, and every other peer has the old one
+-- the peer of a Take has the new last number, and every other peer has the old one
 takes_at : {P : Type 0} (lasts : List ℕ) (from peer number limit : ℕ) (payload : P)
     → 0 < from → from ≤ length lasts → 0 < peer → number ≡ get_or lasts (from - 1) 0 + 1
     → Takes (get_or lasts (peer - 1) 0) (get_or (set lasts (from - 1) number) (peer - 1) 0)
@@ -180,7 +180,7 @@ takes_step {P} len s (Release to number) peer there =
     (λ reply refuses. takes_none {P = P} (last_at s peer) (last_at s peer) refl)
     (λ none. takes_none {P = P} (last_at s peer) (last_at s peer) refl)
 
--- an element of two lists, one after the other
+-- an element of a concatenation
 pub in_either : {X : Type 0} (xs ys : List X) (k : ℕ) (x : X) → slice_get (xs ++ ys) k ≡ Some x
     → (slice_get xs k ≡ Some x) ⊎ ((length xs ≤ k) × (slice_get ys (k - length xs) ≡ Some x))
 in_either {X} xs ys k x found =
@@ -208,43 +208,43 @@ takes_again {P} a b c one two first second = record {
 }
 
 pub takes_fold : {P : Type 0} (len : P → ℕ) (s : State P) (commands : List (Command P)) (peer : PeerId) → 0 < peer.0
-    → Takes (last_at s peer) (last_at (fold len s commands) peer) (taken len peer s commands)
+    → Takes (last_at s peer) (last_at (fold len s commands) peer) (taken_payloads len peer s commands)
 takes_fold len s [] peer there = takes_none (last_at s peer) (last_at s peer) refl
 takes_fold len s (command ∷ commands) peer there =
     takes_again (last_at s peer) (last_at (step len s command).0 peer)
     (last_at (fold len (step len s command).0 commands) peer)
-    (taken_by peer command (step len s command).1) (taken len peer (step len s command).0 commands)
+    (taken_by peer command (step len s command).1) (taken_payloads len peer (step len s command).0 commands)
     (takes_step len s command peer there) (takes_fold len (step len s command).0 commands peer there)
 
 -- from a new spool on
 pub takes_from_new : {P : Type 0} (len : P → ℕ) (params : Params) (commands : List (Command P)) (peer : PeerId)
     → has_peer (new_state {P = P} params) peer ≡ true
-    → Takes 0 (last_at (fold len (new_state params) commands) peer) (taken len peer (new_state params) commands)
+    → Takes 0 (last_at (fold len (new_state params) commands) peer) (taken_payloads len peer (new_state params) commands)
 takes_from_new {P} len params commands peer there =
     let found = among (length (replicate params.peers 0)) peer.0 there in
     let size = length-replicate {A = ℕ} params.peers 0 in
     let start : last_at (new_state {P = P} params) peer ≡ 0 = get_or-replicate params.peers (peer.0 - 1) 0 0
     (omega (arith, found.0, found.1, size)) in
     subst (λ n. Takes n (last_at (fold len (new_state params) commands) peer)
-    (taken len peer (new_state params) commands)) start
+    (taken_payloads len peer (new_state params) commands)) start
     (takes_fold len (new_state params) commands peer found.0)
 
--- ---- what goes into flight
+-- ---- the datagrams that go into flight
 
--- some commands took a hop from one state to another, and put this into its flight
+-- a list of commands led a hop from one state to another, and put these into its flight
 pub record Flows {P : Type 0} (before after : HopState P) (more : List (Numbered P)) : Type 0 where
   pub fewer : before.released ≤ after.released
   pub within : after.released - before.released ≤ length before.flight + length more
   pub flight : borne_by after.flight ≡ drop (after.released - before.released)
-      (borne_by before.flight ++ map borne more)
+      (borne_by before.flight ++ map number_and_payload more)
   pub numbered : (k : ℕ) (x : Numbered P) → slice_get more k ≡ Some x
       → x.number ≡ before.released + length before.flight + k + 1
 
 pub length-borne_by : {P : Type 0} (items : List (Item P)) → length (borne_by items) ≡ length items
 length-borne_by {P} items = length-map items (λ (item : Item P). (item.limit, item.payload))
 
-pub length-borne : {P : Type 0} (xs : List (Numbered P)) → length (map borne xs) ≡ length xs
-length-borne {P} xs = length-map xs (borne {P = P})
+pub length-borne : {P : Type 0} (xs : List (Numbered P)) → length (map number_and_payload xs) ≡ length xs
+length-borne {P} xs = length-map xs (number_and_payload {P = P})
 
 -- the flight is the same
 still_flows : {P : Type 0} (h after : HopState P) → after.flight ≡ h.flight → after.released ≡ h.released
@@ -261,16 +261,16 @@ still_flows {P} h after same released = record {
 flows_again : {P : Type 0} (a b c : HopState P) (one two : List (Numbered P)) → Flows a b one → Flows b c two
     → Flows a c (one ++ two)
 flows_again {P} a b c one two first second =
-    let pay : List (Numbered P) → List (ℕ × P) = λ xs. map borne xs in
+    let pay : List (Numbered P) → List (ℕ × P) = λ xs. map number_and_payload xs in
     let old : List (ℕ × P) = borne_by a.flight in
     let size_old = length-borne_by a.flight in
     let size_one = length-borne one in
-    let size_line = length-append (borne_by a.flight) (map borne one) in
-    let in_line : b.released - a.released ≤ length (borne_by a.flight ++ map borne one) = omega
+    let size_line = length-append (borne_by a.flight) (map number_and_payload one) in
+    let in_line : b.released - a.released ≤ length (borne_by a.flight ++ map number_and_payload one) = omega
     (arith, first.within, size_old, size_one, size_line) in
-    let flown : length b.flight ≡ length (borne_by a.flight ++ map borne one) - (b.released - a.released) =
+    let flown : length b.flight ≡ length (borne_by a.flight ++ map number_and_payload one) - (b.released - a.released) =
     sym (length-borne_by b.flight) ∙ ap length first.flight
-    ∙ length-drop (b.released - a.released) (borne_by a.flight ++ map borne one) in
+    ∙ length-drop (b.released - a.released) (borne_by a.flight ++ map number_and_payload one) in
     let size_both = length-append one two in
     record {
       fewer = omega (arith, first.fewer, second.fewer);
@@ -296,7 +296,7 @@ flows_again {P} a b c one two first second =
           (arith, first.fewer, second.fewer) in e)
           ∙ ap (drop (c.released - a.released))
           (append_assoc old (pay one) (pay two)
-          ∙ ap (λ l. old ++ l) (sym (map-append (borne {P = P}) one two)));
+          ∙ ap (λ l. old ++ l) (sym (map-append (number_and_payload {P = P}) one two)));
       numbered = λ k x found. elim (in_either one two k x found) [
         | inl front ↦ first.numbered k x front
         | inr back ↦ (let at = second.numbered (k - length one) x back.1 in omega
@@ -318,12 +318,13 @@ flows_released {P} h count within =
       numbered = λ k x found. absurd (omega (arith, slice_get_within [] k x found));
     }
 
--- what a pick put into flight at its own hop: what is left after those expired and dropped, if anything is
+-- the datagram that a pick put into flight at its own hop: the first after the expired and dropped ones, if there is
+-- one
 picked_of : {P : Type 0} → ℕ → List (Item P) → List (Numbered P)
 picked_of number [] = []
 picked_of number (item ∷ behind) = (record { number = number; limit = item.limit; payload = item.payload }) ∷ []
 
-flows_picked : {P : Type 0} (h : HopState P) (now : ℕ) (outcome : Outcome) (rest : List (Item P))
+flows_picked : {P : Type 0} (h : HopState P) (now : ℕ) (outcome : DequeueOutcome) (rest : List (Item P))
     → drop outcome.dropped h.queue ≡ rest → Flows h (with_picked h now outcome) (picked_of (next_number h) rest)
 unfolding picked_of
 flows_picked {P} h now outcome [] is =
@@ -347,7 +348,7 @@ flows_picked {P} h now outcome (item ∷ behind) is =
           omega (arith, number_is, first));
     }
 
--- the expired are gone from the queue alone
+-- the expired ones are removed from the queue alone
 flows_expired : {P : Type 0} (h after : HopState P) (count : ℕ) (more : List (Numbered P))
     → Flows (with_expired h count) after more → Flows h after more
 flows_expired h after count more flows = record {
@@ -357,19 +358,19 @@ flows_expired h after count more flows = record {
   numbered = flows.numbered;
 }
 
--- nothing, either way
+-- none, in either case
 both_none : {P : Type 0} (b : Bool) → cond b (let l : List (Numbered P) = [] in l) [] ≡ []
 both_none true = refl
 both_none false = refl
 
--- so many ids as items are taken from the front of a queue
+-- as many ids as items are taken from the front of a queue
 ids_count : {P : Type 0} (count : ℕ) (queue : List (Item P)) → count ≤ length queue
     → length (map (λ (item : Item P). item.id) (take count queue)) ≡ count
 ids_count {P} count queue within =
     length-map (take count queue) (λ (item : Item P). item.id) ∙ length-take count queue
     ∙ (let e : min count (length queue) ≡ count = omega (arith, within) in e)
 
--- what the reply to a pick says that it put into flight
+-- the datagram that the reply to a pick put into flight
 picked_by_pick : {P : Type 0} (hop to : HopId) (now : ℕ) (h g : HopState P) (expired dropped : ℕ)
     (rest : List (Item P))
     → (to.0 ≡ hop.0 → g ≡ h) → expired ≤ length h.queue → drop dropped (drop expired h.queue) ≡ rest
@@ -404,7 +405,7 @@ picked_by_pick {P} hop to now h g expired dropped (item ∷ behind) same within 
           ∙ sym (ap (λ b. cond b (picked_of (next_number h) (item ∷ behind)) []) (ne_eqb to.0 hop.0 elsewhere))
     ]
 
--- the hop of an accepted command is the new one, and every other hop stays
+-- the hop of an accepted command is the new one, and every other hop is unchanged
 pub own_hop : {P : Type 0} (s : State P) (hop to : HopId) (h : HopState P) → 0 < to.0 → to.0 ≤ length s.hops
     → to.0 ≡ hop.0 → hop_at (accept s to h) hop ≡ h
 own_hop {P} s hop to h from below same =
@@ -454,7 +455,7 @@ flows_step {P} len s (Pick to now) hop there =
     (still_flows (hop_at s hop) (hop_at s hop) refl refl))
     (λ none. (let may = may_pick s to now none in
     let late : ℕ = expired_count (hop_at s to) now in
-    let outcome : Outcome = pick_outcome len s.params (hop_at s to) now in
+    let outcome : DequeueOutcome = pick_outcome len s.params (hop_at s to) now in
     let rest : List (Item P) = drop outcome.dropped (drop late (hop_at s to).queue) in
     subst (Flows (hop_at s hop) (hop_at (accept s to (after_pick len s.params (hop_at s to) now)) hop))
     (sym (picked_by_pick hop to now (hop_at s to) (hop_at s hop) late outcome.dropped rest
@@ -478,22 +479,22 @@ flows_step {P} len s (Release to number) hop there =
     (flows_released (hop_at s to) (covered_count (hop_at s to) number) (omega (arith, may.given))))))
 
 pub flows_fold : {P : Type 0} (len : P → ℕ) (s : State P) (commands : List (Command P)) (hop : HopId) → 0 < hop.0
-    → Flows (hop_at s hop) (hop_at (fold len s commands) hop) (picked len hop s commands)
+    → Flows (hop_at s hop) (hop_at (fold len s commands) hop) (picked_payloads len hop s commands)
 flows_fold len s [] hop there = still_flows (hop_at s hop) (hop_at s hop) refl refl
 flows_fold len s (command ∷ commands) hop there =
     flows_again (hop_at s hop) (hop_at (step len s command).0 hop)
     (hop_at (fold len (step len s command).0 commands) hop)
-    (picked_by hop (hop_at s hop) command (step len s command).1) (picked len hop (step len s command).0 commands)
+    (picked_by hop (hop_at s hop) command (step len s command).1) (picked_payloads len hop (step len s command).0 commands)
     (flows_step len s command hop there) (flows_fold len (step len s command).0 commands hop there)
 
 pub flows_from_new : {P : Type 0} (len : P → ℕ) (params : Params) (commands : List (Command P)) (hop : HopId)
     → has_hop (new_state {P = P} params) hop ≡ true
-    → Flows new_hop (hop_at (fold len (new_state params) commands) hop) (picked len hop (new_state params) commands)
+    → Flows new_hop (hop_at (fold len (new_state params) commands) hop) (picked_payloads len hop (new_state params) commands)
 flows_from_new {P} len params commands hop there =
     let found = among (length (replicate params.hops (let h : HopState P = new_hop in h))) hop.0 there in
     let size = length-replicate params.hops (let h : HopState P = new_hop in h) in
     let start : hop_at (new_state {P = P} params) hop ≡ new_hop = get_or-replicate params.hops (hop.0 - 1)
     (let h : HopState P = new_hop in h) new_hop (omega (arith, found.0, found.1, size)) in
     subst (λ (h : HopState P). Flows h (hop_at (fold len (new_state params) commands) hop)
-    (picked len hop (new_state params) commands)) start
+    (picked_payloads len hop (new_state params) commands)) start
     (flows_fold len (new_state params) commands hop found.0)

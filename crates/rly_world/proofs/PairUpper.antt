@@ -1,4 +1,5 @@
--- What the upper end keeps: it releases only what the lower has taken, and its answered Fetches give what was picked.
+-- The invariant of the upper end: it releases only datagrams that the lower has taken, and the replies to its Fetches
+-- have picked ones.
 use Rattle.std.proofs.Common.{ℕ, ◌≡◌, ◌+◌, ◌<◌, ◌≤◌, Bool, true, false, true≢false, max}
 use Rattle.std.proofs.Common.{if◌then◌else◌, inl, inr, List, [], ◌∷◌, ◌++◌, length, take, drop, refl, arith}
 use Rattle.std.proofs.Common.{sym, ◌∙◌, ap, subst, None}
@@ -29,18 +30,18 @@ use Rattle.rly_machine.specs.Take.{take_refusal, with_taken}
 use Rattle.rly_machine.proofs.Folding.{fold_append}
 use Rattle.rly_machine.proofs.Refusals.{among, may_pick, may_release, may_take}
 use Rattle.rly_world.specs.PairCores.{fetched_event, is_for_sender, sender_event}
-use Rattle.rly_world.specs.PairEnd.{Asked, End, Outcome, Replied, Done, Unsure, Broken, DeviceRead, OutOfMemory}
-use Rattle.rly_world.specs.PairEnd.{accepted_after, after_call, harm_by, is_made, lasting, may_go, reply_at, reply_by}
-use Rattle.rly_world.specs.PairEnd.{state_of, told_by, with_crash, with_made, with_other, with_told}
-use Rattle.rly_world.specs.PairPayloads.{IsPrefix, Numbered, picked}
+use Rattle.rly_world.specs.PairEnd.{Asked, End, CallFate, Replied, Done, Unsure, Broken, DeviceRead, OutOfMemory}
+use Rattle.rly_world.specs.PairEnd.{accepted_after, after_call, harm_by, is_made, durable_commands, may_go, reply_at, reply_by}
+use Rattle.rly_world.specs.PairEnd.{state_of, reported_by, with_crash, with_made, with_other, end_after_answer}
+use Rattle.rly_world.specs.PairPayloads.{IsPrefix, Numbered, picked_payloads}
 use Rattle.rly_world.proofs.PairCoreSteps.{IsKept, IsSafeAsk, IsSafeEvent, acked_later, ask_later, either, either_known}
 use Rattle.rly_world.proofs.PairCoreSteps.{event_later}
 use Rattle.rly_world.proofs.PairFetch.{fetched_is_picked}
 use Rattle.rly_world.proofs.PairLists.{all_append, all_weaker, prefix_all, prefix_same, prefix_take}
 use Rattle.rly_world.proofs.PairRuns.{either_way, flows_fold, flows_from_new, other_hop, own_hop, picked_append}
 
--- a call adds no command to those accepted, or its own one, if that is accepted
-pub more_cases : (s : State (List ℕ)) (an : Ask) (outcome : Outcome) (Q : List (Command (List ℕ)) → Type 0)
+-- a call adds no command to the accepted ones, or its own, if that is accepted
+pub more_cases : (s : State (List ℕ)) (an : Ask) (outcome : CallFate) (Q : List (Command (List ℕ)) → Type 0)
     → Q [] → ((c : Command (List ℕ)) → an ≡ ask.Command c → is_accepted (step length s c).1 ≡ true → Q (c ∷ []))
     → Q (if is_made outcome then accepted_by an (ask_step s an).1 else [])
 more_cases s (ask.Query q) outcome Q none one = elim (is_made outcome) as
@@ -55,23 +56,23 @@ more_cases s (ask.Command c) outcome Q none one =
       | false ↦ none
     ]
 
--- what was picked by more commands goes on from what was picked before
+-- the datagrams picked by more commands extend those picked before
 pub picked_front : (hop : HopId) (s : State (List ℕ)) (xs ys : List (Command (List ℕ))) → IsPrefix xs ys
-    → IsPrefix (picked length hop s xs) (picked length hop s ys)
+    → IsPrefix (picked_payloads length hop s xs) (picked_payloads length hop s ys)
 picked_front hop s xs ys p =
-    (picked length hop (fold length s xs) p.0, ap (picked length hop s) p.1 ∙ picked_append length hop s xs p.0)
+    (picked_payloads length hop (fold length s xs) p.0, ap (picked_payloads length hop s) p.1 ∙ picked_append length hop s xs p.0)
 
--- what an end was given for good by its own answers
+-- the datagrams that an end has durably given, by its own replies
 abbrev pub given_by : HopId → End → List (Numbered (List ℕ))
-given_by hop e = picked length hop (new_state e.params) (lasting e)
+given_by hop e = picked_payloads length hop (new_state e.params) (durable_commands e)
 
--- an answer that is due gives what was picked by its position
+-- a pending reply has datagrams picked by its position
 pub record IsTrueReply (hop : HopId) (params : Params) (accepted : List (Command (List ℕ))) (r : Replied) : Type 0 where
   pub position : r.position ≤ length accepted
-  pub told : IsSafeEvent (picked length hop (new_state params) (take r.position accepted)) 0
+  pub told : IsSafeEvent (picked_payloads length hop (new_state params) (take r.position accepted)) 0
       (sender_event r.call.ask r.reply)
 
--- the upper end, where the lower has taken so many for good
+-- the upper end, if the lower has durably taken this many
 pub record IsUpper (hop : HopId) (kept : ℕ) (e : End) (s : Sender) : Type 0 where
   pub there : has_hop (new_state {P = List ℕ} e.params) hop ≡ true
   pub told : e.told ≤ length e.accepted
@@ -92,9 +93,9 @@ upper_later hop kept rest e s below up = record {
   released = omega (arith, up.released, below);
 }
 
--- ---- what a command releases
+-- ---- the datagrams that a command releases
 
--- a command releases at the hop only what the lower has taken
+-- a command releases at the hop only datagrams that the lower has taken
 abbrev pub ReleasesKept : HopId → ℕ → Command (List ℕ) → Type 0
 ReleasesKept hop kept (Release to number) = to.0 ≡ hop.0 → number ≤ kept
 ReleasesKept hop kept (Take from number to stamp limit payload) = Unit {0}
@@ -137,7 +138,7 @@ released_step s (Release to number) hop kept there only old =
     (with_released (hop_at s to) (covered_count (hop_at s to) number)) kept there may.hop_from may.hop_to old
     (λ same. (let all = only same in omega (arith, all, may.some)))))
 
--- a call of the sending core, or of another caller, does so too
+-- a request of the sending core, or of another client, does so too
 abbrev pub AskReleasesKept : HopId → ℕ → Ask → Type 0
 AskReleasesKept hop kept (ask.Command c) = ReleasesKept hop kept c
 AskReleasesKept hop kept (ask.Query q) = Unit {0}
@@ -169,13 +170,13 @@ replied_grown : (hop : HopId) (params : Params) (accepted more : List (Command (
     → IsTrueReply hop params accepted r → IsTrueReply hop params (accepted ++ more) r
 replied_grown hop params accepted more r is = record {
   position = omega (arith, is.position, length-append accepted more);
-  told = subst (λ (l : List (Command (List ℕ))). IsSafeEvent (picked length hop (new_state params) l) 0
+  told = subst (λ (l : List (Command (List ℕ))). IsSafeEvent (picked_payloads length hop (new_state params) l) 0
       (sender_event r.call.ask r.reply)) (sym (take-append-le r.position accepted more is.position)) is.told;
 }
 
 pub given_grown : (hop : HopId) (e : End) (more : List (Command (List ℕ))) (harm : ℕ) → e.told ≤ length e.accepted
     → given_by hop (grown e more harm) ≡ given_by hop e
-given_grown hop e more harm told = ap (picked length hop (new_state e.params))
+given_grown hop e more harm told = ap (picked_payloads length hop (new_state e.params))
     (take-append-le e.told e.accepted more told)
 
 upper_grown : (hop : HopId) (kept : ℕ) (e : End) (s : Sender) (more : List (Command (List ℕ))) (harm : ℕ)
@@ -192,7 +193,7 @@ upper_grown hop kept e s more harm up released = record {
       (sym (fold_append length (new_state e.params) e.accepted more)) released;
 }
 
-pub upper_called : (hop : HopId) (kept : ℕ) (e : End) (s : Sender) (an : Ask) (outcome : Outcome)
+pub upper_called : (hop : HopId) (kept : ℕ) (e : End) (s : Sender) (an : Ask) (outcome : CallFate)
     → AskReleasesKept hop kept an → IsUpper hop kept e s → IsUpper hop kept (after_call e an outcome) s
 upper_called hop kept e s an outcome releases up =
     let found = among _ hop.0 up.there in
@@ -201,7 +202,7 @@ upper_called hop kept e s an outcome releases up =
     (λ c is accepts. upper_grown hop kept e s (c ∷ []) (harm_by outcome) up
     (released_step (state_of e) c hop kept found.0 (command_of hop kept an c is releases) up.released))
 
--- what the machine replies to a call of the sending core is safe to tell
+-- the machine's reply to a request of the sending core is safe
 told_of : (xs : List (Numbered (List ℕ))) (an : Ask) (r : Reply)
     → ((payload : List ℕ) (limit : ℕ) → r ≡ reply.Bytes payload limit
     → IsSafeEvent xs 0 (fetched_event an payload limit))
@@ -219,50 +220,50 @@ told_of xs an (reply.Shown status) bytes = tt
 
 machine_told : (hop : HopId) (kept : ℕ) (params : Params) (accepted : List (Command (List ℕ))) (an : Ask)
     → has_hop (new_state {P = List ℕ} params) hop ≡ true → IsSafeAsk hop kept an
-    → IsSafeEvent (picked length hop (new_state params) accepted) 0
+    → IsSafeEvent (picked_payloads length hop (new_state params) accepted) 0
     (sender_event an (ask_step (fold length (new_state params) accepted) an).1)
 machine_told hop kept params accepted (ask.Query (query.Fetch to number)) there safe =
-    told_of (picked length hop (new_state params) accepted) (ask.Query (query.Fetch to number))
+    told_of (picked_payloads length hop (new_state params) accepted) (ask.Query (query.Fetch to number))
     (query_reply (fold length (new_state params) accepted) (query.Fetch to number))
     (λ payload limit is. fetched_is_picked (fold length (new_state params) accepted) hop number payload limit
-    (picked length hop (new_state params) accepted)
+    (picked_payloads length hop (new_state params) accepted)
     (flows_from_new length params accepted hop there)
     (subst (λ (h : HopId). query_reply (fold length (new_state params) accepted)
     (query.Fetch h number) ≡ reply.Bytes payload limit) safe is))
 machine_told hop kept params accepted (ask.Query (query.Window to)) there safe =
-    told_of (picked length hop (new_state params) accepted) (ask.Query (query.Window to))
+    told_of (picked_payloads length hop (new_state params) accepted) (ask.Query (query.Window to))
     (query_reply (fold length (new_state params) accepted) (query.Window to)) (λ payload limit is. tt)
 machine_told hop kept params accepted (ask.Query (query.Show to)) there safe =
-    told_of (picked length hop (new_state params) accepted) (ask.Query (query.Show to))
+    told_of (picked_payloads length hop (new_state params) accepted) (ask.Query (query.Show to))
     (query_reply (fold length (new_state params) accepted) (query.Show to)) (λ payload limit is. tt)
 machine_told hop kept params accepted (ask.Command c) there safe =
-    told_of (picked length hop (new_state params) accepted) (ask.Command c)
+    told_of (picked_payloads length hop (new_state params) accepted) (ask.Command c)
     (step length (fold length (new_state params) accepted) c).1 (λ payload limit is. tt)
 
--- the accepted commands begin those after a call, and what was given stays
-pub called_front : (e : End) (an : Ask) (outcome : Outcome)
+-- the accepted commands are a prefix of those after a call, and the given ones are unchanged
+pub called_front : (e : End) (an : Ask) (outcome : CallFate)
     → IsPrefix e.accepted (take (length (accepted_after e an outcome)) (accepted_after e an outcome))
 called_front e an outcome =
     ((if is_made outcome then accepted_by an (reply_at e an) else []), take-length (accepted_after e an outcome))
 
--- an answer tells of no more than there are
-pub told_within : (outcome : Outcome) (count : ℕ) → told_by outcome count ≤ count
+-- a reply acknowledges at most the existing commands
+pub told_within : (outcome : CallFate) (count : ℕ) → reported_by outcome count ≤ count
 told_within Done count = omega arith
 told_within (Unsure stands) count = omega arith
 told_within Broken count = omega arith
 told_within DeviceRead count = omega arith
 told_within OutOfMemory count = omega arith
 
--- what it tells is safe
-due_safe : (hop : HopId) (e : End) (an : Ask) (outcome : Outcome)
-    → IsSafeEvent (picked length hop (new_state e.params) e.accepted) 0 (sender_event an (reply_at e an))
-    → IsSafeEvent (picked length hop (new_state e.params)
-    (take (told_by outcome (length (accepted_after e an outcome))) (accepted_after e an outcome))) 0
+-- the event of the core is safe
+due_safe : (hop : HopId) (e : End) (an : Ask) (outcome : CallFate)
+    → IsSafeEvent (picked_payloads length hop (new_state e.params) e.accepted) 0 (sender_event an (reply_at e an))
+    → IsSafeEvent (picked_payloads length hop (new_state e.params)
+    (take (reported_by outcome (length (accepted_after e an outcome))) (accepted_after e an outcome))) 0
     (sender_event an (reply_by outcome (reply_at e an)))
 due_safe hop e an Done safe =
     let all : List (Command (List ℕ)) = accepted_after e an Done in
-    event_later (picked length hop (new_state e.params) e.accepted)
-    (picked length hop (new_state e.params) (take (length all) all)) 0 0
+    event_later (picked_payloads length hop (new_state e.params) e.accepted)
+    (picked_payloads length hop (new_state e.params) (take (length all) all)) 0 0
     (picked_front hop (new_state e.params) e.accepted (take (length all) all) (called_front e an Done))
     (omega arith)
     (sender_event an (reply_at e an)) safe
@@ -271,16 +272,16 @@ due_safe hop e an Broken safe = tt
 due_safe hop e an DeviceRead safe = tt
 due_safe hop e an OutOfMemory safe = tt
 
-given_called : (hop : HopId) (e : End) (an : Ask) (outcome : Outcome) → e.told ≤ length e.accepted
+given_called : (hop : HopId) (e : End) (an : Ask) (outcome : CallFate) → e.told ≤ length e.accepted
     → given_by hop (after_call e an outcome) ≡ given_by hop e
 given_called hop e an outcome told = given_grown hop e (if is_made outcome then accepted_by an (reply_at e an) else [])
     (harm_by outcome) told
 
--- an end that keeps what it has to, and has given no less than before
+-- an end that keeps its invariant, and has given at least as many as before
 abbrev pub GoesOn : HopId → ℕ → Sender → List (Numbered (List ℕ)) → End → Type 0
 GoesOn hop kept s given e = IsUpper hop kept e s × IsPrefix given (given_by hop e)
 
-pub upper_made : (hop : HopId) (kept : ℕ) (e : End) (s : Sender) (outcome : Outcome) (calls : List Asked)
+pub upper_made : (hop : HopId) (kept : ℕ) (e : End) (s : Sender) (outcome : CallFate) (calls : List Asked)
     → e.asked ≡ calls → IsUpper hop kept e s
     → GoesOn hop kept s (given_by hop e) (with_made e outcome calls)
 upper_made hop kept e s outcome [] is up = (up, prefix_all (given_by hop e))
@@ -292,7 +293,7 @@ upper_made hop kept e s outcome (call ∷ calls) is up =
     let due : Replied = record {
       call = call;
       reply = reply_by outcome (reply_at e call.ask);
-      position = told_by outcome (length (accepted_after e call.ask outcome));
+      position = reported_by outcome (length (accepted_after e call.ask outcome));
     } in
     let told = due_safe hop e call.ask outcome
     (machine_told hop kept e.params e.accepted call.ask up.there asked.0) in
@@ -313,7 +314,7 @@ upper_made hop kept e s outcome (call ∷ calls) is up =
     )
     (up, prefix_all (given_by hop e))
 
--- ---- an answer is given
+-- ---- a reply is given
 
 told_safe : (hop : HopId) (kept : ℕ) (e : End) (s : Sender) (told : ℕ) → told ≤ length e.accepted → e.told ≤ told
     → IsUpper hop kept e s
@@ -333,14 +334,14 @@ told_safe hop kept e s told within more up = (
 
 pub upper_told : (hop : HopId) (kept : ℕ) (e : End) (s : Sender) (r : Reply) (position : ℕ)
     → position ≤ length e.accepted → IsUpper hop kept e s
-    → GoesOn hop kept s (given_by hop e) (with_told e r position)
+    → GoesOn hop kept s (given_by hop e) (end_after_answer e r position)
 upper_told hop kept e s r position within up =
     either (is_failure r) e.told (max e.told position)
     (λ told. GoesOn hop kept s (given_by hop e) (record e { told = told }))
     (told_safe hop kept e s e.told up.told (omega arith) up)
     (told_safe hop kept e s (max e.told position) (omega (arith, up.told, within)) (omega arith) up)
 
--- what the core is told is then given for good
+-- the datagrams in the core's event are then durably given
 failed_told : (xs : List (Numbered (List ℕ))) (an : Ask) (r : Reply) → is_failure r ≡ true
     → IsSafeEvent xs 0 (sender_event an r)
 failed_told xs an (reply.Bytes payload limit) fails = absurd (true≢false (sym fails))
@@ -355,21 +356,21 @@ failed_told xs an (reply.Already last) fails = tt
 failed_told xs an (reply.Shown status) fails = tt
 
 pub event_told : (hop : HopId) (e : End) (r : Replied) → IsTrueReply hop e.params e.accepted r
-    → IsSafeEvent (given_by hop (with_told e r.reply r.position)) 0 (sender_event r.call.ask r.reply)
+    → IsSafeEvent (given_by hop (end_after_answer e r.reply r.position)) 0 (sender_event r.call.ask r.reply)
 event_told hop e r is =
     either_known (is_failure r.reply) e.told (max e.told r.position)
-    (λ told. IsSafeEvent (picked length hop (new_state e.params) (take told e.accepted)) 0
+    (λ told. IsSafeEvent (picked_payloads length hop (new_state e.params) (take told e.accepted)) 0
     (sender_event r.call.ask r.reply))
-    (λ fails. failed_told (picked length hop (new_state e.params) (take e.told e.accepted)) r.call.ask r.reply fails)
-    (event_later (picked length hop (new_state e.params) (take r.position e.accepted))
-    (picked length hop (new_state e.params) (take (max e.told r.position) e.accepted)) 0 0
+    (λ fails. failed_told (picked_payloads length hop (new_state e.params) (take e.told e.accepted)) r.call.ask r.reply fails)
+    (event_later (picked_payloads length hop (new_state e.params) (take r.position e.accepted))
+    (picked_payloads length hop (new_state e.params) (take (max e.told r.position) e.accepted)) 0 0
     (picked_front hop (new_state e.params) (take r.position e.accepted) (take (max e.told r.position) e.accepted)
     (prefix_take r.position (max e.told r.position) e.accepted (omega arith)))
     (omega arith) (sender_event r.call.ask r.reply) is.told)
 
--- ---- another caller's call
+-- ---- another client's call
 
-pub upper_served : (hop : HopId) (kept : ℕ) (e : End) (s : Sender) (an : Ask) (outcome : Outcome) (is_answered : Bool)
+pub upper_served : (hop : HopId) (kept : ℕ) (e : End) (s : Sender) (an : Ask) (outcome : CallFate) (is_answered : Bool)
     → is_for_sender hop an ≡ false → IsUpper hop kept e s
     → GoesOn hop kept s (given_by hop e) (with_other e an outcome is_answered)
 upper_served hop kept e s an outcome is_answered other up =
@@ -377,12 +378,12 @@ upper_served hop kept e s an outcome is_answered other up =
     let called = upper_called hop kept e s an outcome (others_release hop kept an other) up in
     let same = given_called hop e an outcome up.told in
     either (may_go e an outcome)
-    (if is_answered then with_told after (reply_by outcome (reply_at e an)) (length after.accepted) else after) e
+    (if is_answered then end_after_answer after (reply_by outcome (reply_at e an)) (length after.accepted) else after) e
     (GoesOn hop kept s (given_by hop e))
-    (either is_answered (with_told after (reply_by outcome (reply_at e an)) (length after.accepted)) after
+    (either is_answered (end_after_answer after (reply_by outcome (reply_at e an)) (length after.accepted)) after
     (GoesOn hop kept s (given_by hop e))
     (subst (λ (given : List (Numbered (List ℕ))). GoesOn hop kept s given
-    (with_told after (reply_by outcome (reply_at e an)) (length after.accepted))) same
+    (end_after_answer after (reply_by outcome (reply_at e an)) (length after.accepted))) same
     (upper_told hop kept after s (reply_by outcome (reply_at e an)) (length after.accepted) (omega arith) called))
     (called, prefix_same (given_by hop e) (given_by hop after) same))
     (up, prefix_all (given_by hop e))
@@ -409,5 +410,5 @@ upper_crashed hop kept e s new n opens within none up =
         released = omega (arith, fewer, released_is, up.released);
       },
       prefix_same (given_by hop e) (given_by hop (with_crash e n opens))
-          (ap (picked length hop (new_state e.params)) (take-take e.told n e.accepted within)),
+          (ap (picked_payloads length hop (new_state e.params)) (take-take e.told n e.accepted within)),
     )

@@ -1,4 +1,4 @@
--- The answers of a round, and the positions that they tell.
+-- The replies of a round, and their positions.
 use Rattle.std.proofs.Common.{ℕ, ◌≡◌, ◌≤◌, ◌++◌, max, suc, zero, Bool, true, false, List, [], ◌∷◌, length}
 use Rattle.std.proofs.Common.{length-append, take, drop, refl, arith, ap, sym, ◌∙◌}
 use Rattle.std.specs.Prelude.{if◌then◌else◌}
@@ -16,10 +16,10 @@ use Rattle.rly_machine.specs.State.{State}
 use Rattle.rly_machine.proofs.Histories.{folds, legal_but_for_bytes}
 use Rattle.rly_journal.specs.Journal.{holds_command, is_command}
 use Rattle.rly_journal.specs.Rounds.{refusals}
-use Rattle.rly_world.specs.RelaySteps.{greatest}
+use Rattle.rly_world.specs.RelaySteps.{greatest_position}
 use Rattle.rly_world.specs.RelayWorld.{Batch, calls_of}
 
--- no answer has a position above n, those apart that say nothing of it
+-- no reply has a position above n, except those that acknowledge nothing
 pub record IsBelow (n : ℕ) (answer : Answer) : Type 0 where
   pub below : is_failure answer.reply ≡ false → answer.position ≤ n
 
@@ -42,7 +42,7 @@ greater : (n told position : ℕ) (fails : Bool) → told ≤ n → (fails ≡ f
 greater n told position true least below = least
 greater n told position false least below = omega (arith, least, below refl)
 
-pub greatest_below : (n told : ℕ) (answers : List Answer) → told ≤ n → AreBelow n answers → greatest told answers ≤ n
+pub greatest_below : (n told : ℕ) (answers : List Answer) → told ≤ n → AreBelow n answers → greatest_position told answers ≤ n
 greatest_below n told [] least below = least
 greatest_below n told (answer ∷ answers) least below =
     greatest_below n (if is_failure answer.reply then told else max told answer.position) answers
@@ -86,7 +86,7 @@ served_below harmed s (call ∷ calls) (answer ∷ given) same legal = (
   served_below (harm answer.reply) (next_state s (call, answer)) calls given (omega (arith, same)) legal.1,
 )
 
--- questions change nothing
+-- queries change nothing
 none_asked : (an : Ask) (reply : Reply) → is_command an ≡ false → accepted_by an reply ≡ []
 none_asked (Command command) reply none = absurd (false≢true (sym none))
 none_asked (Query query) reply none = refl
@@ -100,7 +100,7 @@ asked_none (call ∷ calls) (answer ∷ given) none =
     ap (λ l. l ++ accepted_of (zip calls given)) (none_asked call.ask answer.reply parts.0)
     ∙ asked_none calls given parts.1
 
--- the calls after a batch are no more than with it
+-- the calls without a batch are at most those with it
 pub fewer_calls : (batch : Batch) (batches : List Batch)
     → length (calls_of batches) ≤ length (calls_of (batch ∷ batches))
 fewer_calls batch batches = omega (arith, length-append batch (calls_of batches))

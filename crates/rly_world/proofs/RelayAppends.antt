@@ -1,16 +1,16 @@
--- The calls that a journal makes to append a group have their place, one after the other.
+-- The calls of a journal's append are possible, in order.
 use Rattle.std.proofs.Common.{◌≡◌, ℕ, List, [], ◌∷◌, Some, map, refl, inl, subst, sym}
 use Rattle.rly_core.specs.declared.params.Geometry.{Geometry}
 use Rattle.rly_disk.specs.Trace.{DeviceEvent, Sync, Write}
-use Rattle.rly_gate.specs.Calls.{appending}
+use Rattle.rly_gate.specs.Calls.{append_calls}
 use Rattle.rly_record.specs.Spelling.{body_of}
 use Rattle.rly_segment.specs.Formatted.{IsFormatted}
-use Rattle.rly_standing.specs.Standing.{Commands, IsStanding, Standing, gate_of}
+use Rattle.rly_journal.specs.Recovery.{Commands, IsRecovery, Recovery, gate_of}
 use Rattle.rly_world.specs.RelayPhases.{IsDone, IsNeeded, bytes_of, place_of}
-use Rattle.rly_world.specs.RelaySteps.{Event, MayCall, Run, after}
+use Rattle.rly_world.specs.RelaySteps.{Event, MayCall, Run, world_after}
 use Rattle.rly_world.specs.RelaySteps as event
 use Rattle.rly_world.specs.RelayWorld.{Answering, Body, Gate, Phase, Round, World, Writing, asked_of}
-use Rattle.rly_world.specs.RelayWorld.{logged, new_world, seen_of}
+use Rattle.rly_world.specs.RelayWorld.{round_commands, new_world, seen_of}
 use Rattle.rly_world.proofs.RelayBegins.{one_standing}
 use Rattle.rly_world.proofs.RelayCalls.{in_phase, round_at, writing_of}
 use Rattle.rly_world.proofs.RelayEvents.{at_stage, from_round, in_round, run_held}
@@ -20,58 +20,58 @@ use Rattle.rly_world.proofs.RelayPhases.{body_next}
 use Rattle.rly_world.proofs.RelayStart.{holds}
 
 -- the write of a phase
-abbrev pub own_write : Phase → Standing → Commands → DeviceEvent
+abbrev pub own_write : Phase → Recovery → Commands → DeviceEvent
 own_write phase x commands = Write (place_of phase x) (bytes_of phase x commands)
 
 -- a phase's write and its sync
-abbrev pub after_both : World → Phase → Standing → World
-after_both w phase x = after (after w (event.Calls (own_write phase x (logged w)))) (event.Calls Sync)
+abbrev pub after_both : World → Phase → Recovery → World
+after_both w phase x = world_after (world_after w (event.Calls (own_write phase x (round_commands w)))) (event.Calls Sync)
 
-pub record MayFinish (w : World) (phase : Phase) (x : Standing) : Type 0 where
-  pub write : IsNeeded phase x (seen_of w.device) → MayCall w (own_write phase x (logged w))
-  pub then_sync : IsNeeded phase x (seen_of w.device) → MayCall (event.called w (own_write phase x (logged w))) Sync
+pub record MayFinish (w : World) (phase : Phase) (x : Recovery) : Type 0 where
+  pub write : IsNeeded phase x (seen_of w.device) → MayCall w (own_write phase x (round_commands w))
+  pub then_sync : IsNeeded phase x (seen_of w.device) → MayCall (event.world_after_call w (own_write phase x (round_commands w))) Sync
 
-pub may_finish : (w : World) (round : Round) (phase : Phase) (x : Standing) → IsHeld w → w.round ≡ Some round
-    → round.stage ≡ Writing phase → IsStanding w.device.synced x → MayFinish w phase x
+pub may_finish : (w : World) (round : Round) (phase : Phase) (x : Recovery) → IsHeld w → w.round ≡ Some round
+    → round.stage ≡ Writing phase → IsRecovery w.device.synced x → MayFinish w phase x
 may_finish w round phase x held is at stands =
     let goes = goes_on w round phase held is at in
     subst (MayFinish w phase) (one_standing goes.x x goes.stands stands)
     (record { write = goes.write; then_sync = goes.then_sync })
 
 -- both are made
-pub both_run : (w : World) (phase : Phase) (x : Standing) (events : List Event) (new : World) → MayFinish w phase x
+pub both_run : (w : World) (phase : Phase) (x : Recovery) (events : List Event) (new : World) → MayFinish w phase x
     → IsNeeded phase x (seen_of w.device) → Run (after_both w phase x) events new
-    → Run w (event.Calls (own_write phase x (logged w)) ∷ event.Calls Sync ∷ events) new
+    → Run w (event.Calls (own_write phase x (round_commands w)) ∷ event.Calls Sync ∷ events) new
 both_run w phase x events new may needed rest = (
-  after w (event.Calls (own_write phase x (logged w))),
+  world_after w (event.Calls (own_write phase x (round_commands w))),
   inl (may.write needed, refl),
   (after_both w phase x, inl (may.then_sync needed, refl), rest),
 )
 
--- the standing is the same after a body that was written
-pub body_stands : (w : World) (round : Round) (x : Standing) → IsHeld (in_phase w Body round)
-    → IsStanding w.device.synced x
-    → IsStanding (seen_of (asked_of w.device (own_write Body x (logged w)))) x
+-- the recovered content is the same after a body was written
+pub body_stands : (w : World) (round : Round) (x : Recovery) → IsHeld (in_phase w Body round)
+    → IsRecovery w.device.synced x
+    → IsRecovery (seen_of (asked_of w.device (own_write Body x (round_commands w)))) x
 body_stands w round x held stands =
     let v : World = in_phase w Body round in
     let writing : Round = record round { stage = Writing Body } in
     let may = may_finish (in_phase w Body round) writing Body x held refl refl stands in
-    let next : World = after (in_phase w Body round) (event.Calls (own_write Body x (logged w))) in
+    let next : World = world_after (in_phase w Body round) (event.Calls (own_write Body x (round_commands w))) in
     let written : IsHeld next =
-    run_held v next (event.Calls (own_write Body x (logged w)) ∷ []) (next, inl (may.write tt, refl), refl) held in
+    run_held v next (event.Calls (own_write Body x (round_commands w)) ∷ []) (next, inl (may.write tt, refl), refl) held in
     let now = (writing_of (core_of next) w.is_open w.is_broken Body round written.placed).2 in
     let same : now.x ≡ x = one_standing now.x x now.stands stands in
-    let seen : List ℕ = seen_of (asked_of w.device (own_write Body x (logged w))) in
-    let done : IsDone Body x (logged w) seen = own_done v writing Body held refl refl x stands in
-    subst (IsStanding seen) same
-    (body_next now.x (logged w) w.device.synced seen now.stands now.begins (now.images seen written.seen)
-    (subst (λ y. IsDone Body y (logged w) seen) (sym same) done)).0
+    let seen : List ℕ = seen_of (asked_of w.device (own_write Body x (round_commands w))) in
+    let done : IsDone Body x (round_commands w) seen = own_done v writing Body held refl refl x stands in
+    subst (IsRecovery seen) same
+    (body_next now.x (round_commands w) w.device.synced seen now.stands now.begins (now.images seen written.seen)
+    (subst (λ y. IsDone Body y (round_commands w) seen) (sym same) done)).0
 
 -- the calls of an append, in order
-pub appends_run : (w : World) (round : Round) (x : Standing) → IsHeld w → w.round ≡ Some round
+pub appends_run : (w : World) (round : Round) (x : Recovery) → IsHeld w → w.round ≡ Some round
     → round.stage ≡ Writing Body
-    → IsStanding w.device.synced x → (new : World)
-    × Run w (map event.Calls (appending (gate_of x) (body_of (logged w)))) new
+    → IsRecovery w.device.synced x → (new : World)
+    × Run w (map event.Calls (append_calls (gate_of x) (body_of (round_commands w)))) new
     × (new.round ≡ round_at Answering round) × (new.device.since ≡ [])
 appends_run w round x held is at stands =
     from_round Appends w (round_at (Writing Body) round) known
@@ -81,7 +81,7 @@ appends_run w round x held is at stands =
     known = at_stage w round (Writing Body) is at
 
     Appends : World → Type 0
-    Appends v = (new : World) × Run v (map event.Calls (appending (gate_of x) (body_of (logged v)))) new
+    Appends v = (new : World) × Run v (map event.Calls (append_calls (gate_of x) (body_of (round_commands v)))) new
         × (new.round ≡ round_at Answering round) × (new.device.since ≡ [])
 
     by_phase : IsHeld (in_phase w Body round) → Appends (in_phase w Body round)
@@ -93,22 +93,22 @@ appends_run w round x held is at stands =
         let opening : Round = record round { stage = Writing Gate } in
         let first = may_finish v writing Body x held_so refl refl stands in
         let held_next : IsHeld next = run_held v next
-        (event.Calls (own_write Body x (logged w)) ∷ event.Calls Sync ∷ [])
+        (event.Calls (own_write Body x (round_commands w)) ∷ event.Calls Sync ∷ [])
         (both_run v Body x [] next first tt refl) held_so in
         let second = may_finish next opening Gate x held_next refl refl
         (body_stands w round x held_so stands) in (
           new,
-          both_run v Body x (event.Calls (own_write Gate x (logged w)) ∷ event.Calls Sync ∷ []) new first tt
+          both_run v Body x (event.Calls (own_write Gate x (round_commands w)) ∷ event.Calls Sync ∷ []) new first tt
               (both_run next Gate x [] new second tt refl),
           refl,
           refl,
         )
 
 pub relay_appends : (g : Geometry) (seats : ℕ) (bytes : List ℕ) (events : List Event) (w : World) (round : Round)
-    (x : Standing)
+    (x : Recovery)
     → IsFormatted g bytes → Run (new_world g.params seats bytes) events w → w.round ≡ Some round
-    → round.stage ≡ Writing Body → IsStanding w.device.synced x
-    → (new : World) × Run w (map event.Calls (appending (gate_of x) (body_of (logged w)))) new
+    → round.stage ≡ Writing Body → IsRecovery w.device.synced x
+    → (new : World) × Run w (map event.Calls (append_calls (gate_of x) (body_of (round_commands w)))) new
     × (new.round ≡ round_at Answering round) × (new.device.since ≡ [])
 relay_appends g seats bytes events w round x formatted run is at stands =
     appends_run w round x (holds g seats bytes events w formatted run) is at stands

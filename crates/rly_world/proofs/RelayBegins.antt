@@ -1,4 +1,5 @@
--- Where no segment is due accepted commands find room; and one is due by what the device reads where it is by the journal's end.
+-- If no segment is due accepted commands have room; and one is due by the bytes that the device reads if it is by the
+-- journal's end.
 use Rattle.std.proofs.Common.{ℕ, ◌≡◌, ◌≤◌, ◌+◌, ◌-◌, ◌∙◌, ◌↔◌, List, [], ◌∷◌, length, arith, ap, refl, sym, subst, ⊎_elim}
 use Rattle.std.specs.List.{AllByRecursion}
 use Rattle.std.proofs.lemmas.Bool.{cases_lt}
@@ -11,41 +12,41 @@ use Rattle.rly_gate.proofs.Frames.{length-frame}
 use Rattle.rly_reclaim.specs.Room.{IsDue, group_room}
 use Rattle.rly_record.specs.Spelling.{IsShort, body_of, longest_body}
 use Rattle.rly_segment.specs.Heads.{segment_place}
-use Rattle.rly_standing.specs.Standing.{Commands, IsStanding, Standing, first_of, gate_of, replayed, state_in}
-use Rattle.rly_standing.specs.declared.tail.Tail.{Tail}
-use Rattle.rly_standing.specs.Log.{IsFull, IsLogged}
+use Rattle.rly_journal.specs.Recovery.{Commands, IsRecovery, Recovery, first_of, gate_of, state_after_groups, state_in}
+use Rattle.rly_journal.specs.declared.tail.Tail.{Tail}
+use Rattle.rly_journal.specs.Log.{IsFull, IsLogged}
 use Rattle.rly_world.specs.RelayPhases.{IsDueIn}
-use Rattle.rly_standing.proofs.Frame.{gate_above}
-use Rattle.rly_standing.proofs.Gathering.{spelled_most}
-use Rattle.rly_standing.proofs.Once.{standing_once}
+use Rattle.rly_journal.proofs.Frame.{gate_above}
+use Rattle.rly_journal.proofs.Gathering.{spelled_most}
+use Rattle.rly_journal.proofs.Once.{standing_once}
 use Rattle.rly_world.proofs.RelayPhases.{IsGroup}
 use Rattle.rly_world.proofs.RelayRecords.{accepted_records, accepted_shorts}
 
-pub one_standing : {image : List ℕ} (x y : Standing) → IsStanding image x → IsStanding image y → x ≡ y
+pub one_standing : {image : List ℕ} (x y : Recovery) → IsRecovery image x → IsRecovery image y → x ≡ y
 one_standing {image} x y first second = standing_once x y first second
 
 -- the offset of the first closed gate
-abbrev pub offset_of : Standing → ℕ
+abbrev pub offset_of : Recovery → ℕ
 offset_of x = gate_of x - segment_place x.geometry x.segment
 
-room_left : (x : Standing) → (IsDue x.geometry (offset_of x) → ⊥) → offset_of x + group_room x.geometry.params.payload ≤ x.geometry.length
+room_left : (x : Recovery) → (IsDue x.geometry (offset_of x) → ⊥) → offset_of x + group_room x.geometry.params.payload ≤ x.geometry.length
 room_left x room =
     ⊎_elim (λ due. absurd (room due)) (λ left. left)
     (cases_lt x.geometry.length (offset_of x + group_room x.geometry.params.payload))
 
--- commands leave the parameters as they are: those of the state are the device's
-replayed_params : (s : State (List ℕ)) (groups : List Commands) → (replayed s groups).params ≡ s.params
+-- commands leave the parameters unchanged: those of the state are the device's
+replayed_params : (s : State (List ℕ)) (groups : List Commands) → (state_after_groups s groups).params ≡ s.params
 replayed_params s [] = refl
 replayed_params s (commands ∷ groups) =
     replayed_params (fold length s commands) groups ∙ params_fold length s commands
 
-standing_params : {image : List ℕ} (x : Standing) → IsStanding image x → (state_in x).params ≡ x.geometry.params
+standing_params : {image : List ℕ} (x : Recovery) → IsRecovery image x → (state_in x).params ≡ x.geometry.params
 standing_params x stands =
     replayed_params x.checkpoint x.groups
     ∙ ap (λ (s : State (List ℕ)). s.params) stands.scanned.payloads
     ∙ stands.scanned.head.head.head.params
 
-pub roomy_group : {image : List ℕ} (x : Standing) (commands : Commands) → IsStanding image x
+pub roomy_group : {image : List ℕ} (x : Recovery) (commands : Commands) → IsRecovery image x
     → IsSound length (state_in x) → (IsDue x.geometry (offset_of x) → ⊥)
     → 1 ≤ length commands → length commands ≤ 64 → AllAccepted length (state_in x) commands → IsGroup x commands
 roomy_group {image} x commands stands sound roomy some few accepted =
@@ -62,7 +63,7 @@ roomy_group {image} x commands stands sound roomy some few accepted =
       room = omega (arith, room_left x roomy, most, above, length-frame (body_of commands));
     }
 
--- a segment is due by what the device reads exactly where it is due by the end that a journal keeps
+-- a segment is due by the bytes that the device reads if and only if it is by the end that a journal keeps
 same_due : {image : List ℕ} (tail : Tail) (s : State (List ℕ)) (logged : IsLogged image tail s)
     → IsDue logged.x.geometry (offset_of logged.x) ≡ IsFull tail
 same_due tail s logged =

@@ -1,4 +1,4 @@
--- The books of a hop: what was released is what accepted Releases covered.
+-- The account of a hop: the released datagrams are those that accepted Releases covered.
 use Rattle.std.proofs.Common.{ℕ, ◌≡◌, ◌≤◌, ◌<◌, ◌+◌, ◌-◌, ◌∙◌, max, cond, Bool, true, false, List, [], ◌∷◌, Option}
 use Rattle.std.proofs.Common.{Some, None, length, get_or, set, replicate, arith, ap, refl, sym, inl, inr}
 use Rattle.std.specs.Prelude.{nat_eq}
@@ -24,12 +24,12 @@ use Rattle.rly_machine.proofs.Folding.{params_fold}
 use Rattle.rly_machine.proofs.RealReplies.{counted}
 use Rattle.rly_machine.proofs.Refusals.{among, may_pick, may_release, may_take}
 use Rattle.rly_machine.proofs.Runs.{sound_from_new}
-use Rattle.rly_standing.specs.Standing.{Commands}
+use Rattle.rly_journal.specs.Recovery.{Commands}
 use Rattle.rly_world.specs.RelayLaw.{KeepsBooks, greatest_of, releases_of}
 use Rattle.rly_world.specs.RelayWorld.{state_from}
 use Rattle.rly_world.proofs.RelayRecords.{unrefused}
 
--- what an accepted command of a hop leaves released, at it and at the others
+-- the number released at a hop after an accepted command, at it and at the others
 record Released (s : State (List ℕ)) (to hop : HopId) (count : ℕ) (after : State (List ℕ)) : Type 0 where
   own : to.0 ≡ hop.0 → (hop_at after hop).released ≡ count
   other : (to.0 ≡ hop.0 → ⊥) → (hop_at after hop).released ≡ (hop_at s hop).released
@@ -52,7 +52,7 @@ released_still s to hop after left = elim (cases_eq to.0 hop.0) [
   | inr differs ↦ left.other differs
 ]
 
--- of a step that no check refused
+-- of a step that passed all checks
 through : (refusal : Option Reply) (s : State (List ℕ)) (accepted : State (List ℕ) × Reply) (hop : HopId) (count : ℕ)
     → refusal ≡ None → (hop_at accepted.0 hop).released ≡ count
     → (hop_at (unless refusal s accepted).0 hop).released ≡ count

@@ -1,4 +1,4 @@
--- A call of the device keeps what holds of a relay.
+-- A device call keeps the invariant of a relay.
 use Rattle.std.proofs.Common.{ℕ, ◌≡◌, ◌≤◌, ◌+◌, ◌++◌, ◌∙◌, Bool, true, false, true≢false, List, [], ◌∷◌, Option, Some}
 use Rattle.std.proofs.Common.{None, length, take, drop, arith, ap, refl, sym, subst, inl, inr, length-drop, length-take}
 use Rattle.std.proofs.lemmas.List.{take_all, take-append-drop}
@@ -11,12 +11,12 @@ use Rattle.rly_machine.specs.Fold.{fold}
 use Rattle.rly_machine.specs.State.{new_state}
 use Rattle.rly_machine.proofs.Folding.{fold_append}
 use Rattle.rly_journal.specs.Rounds.{refusals}
-use Rattle.rly_standing.specs.Standing.{Commands, IsStanding, Standing, Stands, state_in}
-use Rattle.rly_standing.proofs.Framing.{read_in}
+use Rattle.rly_journal.specs.Recovery.{Commands, IsRecovery, Recovery, Stands, state_in}
+use Rattle.rly_journal.proofs.UntouchedBytes.{read_in}
 use Rattle.rly_world.specs.RelayPhases.{IsDone, IsNeeded, MaySync, MayWrite, bytes_of, place_of}
-use Rattle.rly_world.specs.RelaySteps.{after_phase, broke, called, counted_after, on_device, unread}
+use Rattle.rly_world.specs.RelaySteps.{after_phase, world_after_failure, world_after_call, counted_after, on_device, round_after_failed_read}
 use Rattle.rly_world.specs.RelayWorld.{Answering, Body, Device, Gate, Head, IsImageOf, Phase, Ready, Round, Seal}
-use Rattle.rly_world.specs.RelayWorld.{Stage, Switch, Taking, World, Writing, asked_of, batches_in, calls_of, logged}
+use Rattle.rly_world.specs.RelayWorld.{Stage, Switch, Taking, World, Writing, asked_of, batches_in, calls_of, round_commands}
 use Rattle.rly_world.specs.RelayWorld.{seen_of, state_from}
 use Rattle.rly_world.proofs.RelayAnswers.{AreBelow, refused_below}
 use Rattle.rly_world.proofs.RelayBegins.{one_standing}
@@ -26,7 +26,7 @@ use Rattle.rly_world.proofs.RelayHolds.{core_of, whole_state}
 use Rattle.rly_world.proofs.RelayPhases.{Begins, IsPhaseImage, body_next, first_image, gate_next, head_next}
 use Rattle.rly_world.proofs.RelayPhases.{phase_stands, phase_torn, phase_within, seal_next, switch_next}
 
--- ---- what a crash leaves
+-- ---- the crash images
 
 pub all_taken : (k : Core) → state_from k.params (take (length k.accepted) k.accepted) ≡ whole_state k
 all_taken k = ap (state_from k.params) (take_all (length k.accepted) k.accepted (omega arith))
@@ -72,7 +72,7 @@ written_kept phase k w image left =
       }
     ]
 
--- ---- the place of a round in hand
+-- ---- the stage of the current round
 
 abbrev pub round_at : Stage → Round → Option Round
 round_at stage round = Some (record round { stage = stage })
@@ -98,7 +98,7 @@ pub running_at : (k : Core) (broken : Bool) (stage : Stage) (round : Round)
 running_at k true stage round whole below at = absurd (true≢false whole)
 running_at k false stage round whole below at = (below, at)
 
--- ---- reads, and calls that settle nothing
+-- ---- reads, and calls that make nothing durable
 
 module _ (k : Core) (since : List DeviceEvent) where
   abbrev pub later_device : Device
@@ -164,25 +164,25 @@ read_held w place count held =
     (image_asked w.device (Read place count) (seen_of (asked_of w.device (Read place count)))
     (subst (IsImageOf w.device) (sym (asked_seen w.device (Read place count))) held.seen)) held
 
--- what the round knows of failed reads is of no account to it
+-- the round's record of failed reads doesn't matter
 unread_running : (k : Core) (broken : Bool) (round : Option Round) → IsRunning k broken round
-    → IsRunning k broken (unread round)
+    → IsRunning k broken (round_after_failed_read round)
 unread_running k broken None running = running
 unread_running k true (Some round) running = running
 unread_running k false (Some round) running = running
 
 unread_placed : (k : Core) (opened broken : Bool) (round : Option Round) → IsPlaced k opened broken round
-    → IsPlaced k opened broken (unread round)
+    → IsPlaced k opened broken (round_after_failed_read round)
 unread_placed k true broken round placed = unread_running k broken round placed
-unread_placed k false broken round placed = ap unread placed
+unread_placed k false broken round placed = ap round_after_failed_read placed
 
 unread_few : (round : Option Round) → length (calls_of (batches_in round)) ≤ 64
-    → length (calls_of (batches_in (unread round))) ≤ 64
+    → length (calls_of (batches_in (round_after_failed_read round))) ≤ 64
 unread_few None few = few
 unread_few (Some round) few = few
 
 unread_holds : (k : Core) (opened broken : Bool) (round : Option Round) → Holds k opened broken round
-    → Holds k opened broken (unread round)
+    → Holds k opened broken (round_after_failed_read round)
 unread_holds k opened broken round held = record {
   within = held.within;
   accepted = held.accepted;
@@ -192,7 +192,7 @@ unread_holds k opened broken round held = record {
   placed = unread_placed k opened broken round held.placed;
 }
 
-pub failed_read_held : (w : World) (place count : ℕ) → IsHeld w → IsHeld (called w (FailedRead place count))
+pub failed_read_held : (w : World) (place count : ℕ) → IsHeld w → IsHeld (world_after_call w (FailedRead place count))
 failed_read_held w place count held =
     unread_holds (core_of (on_device w (FailedRead place count))) w.is_open w.is_broken w.round
     (still_holds (core_of w) (w.device.since ++ FailedRead place count ∷ [])
@@ -209,13 +209,13 @@ failed_sync_held w held =
 
 -- ---- writes
 
-record IsRange (phase : Phase) (x : Standing) (commands : Commands) (seen : List ℕ) (place n : ℕ) : Type 0 where
+record IsRange (phase : Phase) (x : Recovery) (commands : Commands) (seen : List ℕ) (place n : ℕ) : Type 0 where
   from : place_of phase x ≤ place
   to : place + n ≤ place_of phase x + length (bytes_of phase x commands)
   needed : IsNeeded phase x seen
 
-range_of : {phase : Phase} {device : Device} {commands : Commands} {place n : ℕ} (x : Standing)
-    → IsStanding device.synced x → (may : MayWrite phase device commands place n)
+range_of : {phase : Phase} {device : Device} {commands : Commands} {place n : ℕ} (x : Recovery)
+    → IsRecovery device.synced x → (may : MayWrite phase device commands place n)
     → IsRange phase x commands (seen_of device) place n
 range_of {phase} {device} {commands} {place} {n} x stands may =
     subst (λ y. IsRange phase y commands (seen_of device) place n) (one_standing may.x x may.stands stands)
@@ -223,7 +223,7 @@ range_of {phase} {device} {commands} {place} {n} x stands may =
 
 module _ (w : World) (phase : Phase) (round : Round)
     (held : Holds (core_of w) w.is_open w.is_broken (round_at (Writing phase) round)) (place n : ℕ)
-    (may : MayWrite phase w.device (logged w) place n)
+    (may : MayWrite phase w.device (round_commands w) place n)
     (since : List DeviceEvent)
     (torn : (c : List ℕ) → IsImageOf (record { synced = w.device.synced; since = since }) c
     → IsTorn place n (IsImageOf w.device) c) where
@@ -239,7 +239,7 @@ module _ (w : World) (phase : Phase) (round : Round)
         begins = now.begins;
         images = λ c image.
             let t = torn c image in
-            phase_torn phase now.x (logged w) w.device.synced (seen_of w.device) t.0 c place n range.from range.to
+            phase_torn phase now.x (round_commands w) w.device.synced (seen_of w.device) t.0 c place n range.from range.to
             range.needed
             (now.images (seen_of w.device) held.seen) (now.images t.0 t.1) t.2;
       }
@@ -272,7 +272,7 @@ module _ (w : World) (phase : Phase) (round : Round)
       omega (
         arith,
         range.to,
-        phase_within phase now.x (logged w) w.device.synced now.stands now.begins,
+        phase_within phase now.x (round_commands w) w.device.synced now.stands now.begins,
         (now.images (seen_of w.device) held.seen).outside.same_length,
       )
 
@@ -281,7 +281,7 @@ in_phase w phase round = record w { round = round_at (Writing phase) round }
 
 pub write_held : (w : World) (phase : Phase) (round : Round) (place : ℕ) (bytes : List ℕ)
     → IsHeld (in_phase w phase round)
-    → MayWrite phase w.device (logged w) place (length bytes)
+    → MayWrite phase w.device (round_commands w) place (length bytes)
     → IsHeld (on_device (in_phase w phase round) (Write place bytes))
 write_held w phase round place bytes held may =
     torn_held w phase round held place (length bytes) may (w.device.since ++ Write place bytes ∷ [])
@@ -297,7 +297,7 @@ write_held w phase round place bytes held may =
 
 pub failed_write_held : (w : World) (phase : Phase) (round : Round) (place : ℕ)
     (bytes left : List ℕ) → IsHeld (in_phase w phase round)
-    → MayWrite phase w.device (logged w) place (length bytes)
+    → MayWrite phase w.device (round_commands w) place (length bytes)
     → IsHeld (on_device (in_phase w phase round) (FailedWrite place bytes left))
 failed_write_held w phase round place bytes left held may =
     let since : List DeviceEvent = w.device.since ++ FailedWrite place bytes left ∷ [] in
@@ -318,7 +318,7 @@ failed_write_held w phase round place bytes left held may =
 -- ---- a relay that broke
 
 pub broke_held : (w : World) (phase : Phase) (round : Round)
-    → IsHeld (in_phase w phase round) → IsHeld (broke (in_phase w phase round))
+    → IsHeld (in_phase w phase round) → IsHeld (world_after_failure (in_phase w phase round))
 broke_held w phase round held = record {
   within = held.within;
   accepted = held.accepted;
@@ -334,13 +334,13 @@ broke_held w phase round held = record {
 
 -- ---- a sync
 
--- after a sync that was done a crash leaves what was read
+-- after a successful sync a crash leaves the bytes that were read
 abbrev pub synced_core : Core → ℕ → Core
 synced_core k position = record k { device = record { synced = seen_of k.device; since = [] }; position = position }
 
 module _ (k : Core) (phase : Phase) (w : IsWritten phase k) (seen : IsImageOf k.device (seen_of k.device)) where
   -- the next phase begins
-  next_written : (next : Phase) (y : Standing) → state_in y ≡ state_in w.x → IsStanding (seen_of k.device) y
+  next_written : (next : Phase) (y : Recovery) → state_in y ≡ state_in w.x → IsRecovery (seen_of k.device) y
       → Begins next y (drop k.position k.accepted) (seen_of k.device) → IsWritten next (synced_core k k.position)
   next_written next y same stands begins = record {
     x = y;
@@ -354,7 +354,7 @@ module _ (k : Core) (phase : Phase) (w : IsWritten phase k) (seen : IsImageOf k.
         (first_image next y (drop k.position k.accepted) (seen_of k.device));
   }
 
-  -- or no phase is left
+  -- or no phase remains
   next_calm : (position : ℕ) → position ≡ length k.accepted → Stands (seen_of k.device) (whole_state k)
       → IsCalm (synced_core k position)
   next_calm position counted stands = record { only = λ c is. is; stands = stands; counted = counted }
@@ -374,7 +374,7 @@ none_left : (k : Core) → k.position ≤ length k.accepted → drop k.position 
     → k.position ≡ length k.accepted
 none_left k most none = omega (arith, most, length-drop k.position k.accepted, ap length none)
 
--- where a phase leads
+-- the stage after a phase
 next_at : (k : Core) (phase : Phase) (w : IsWritten phase k) → IsImageOf k.device (seen_of k.device)
     → IsDone phase w.x (drop k.position k.accepted) (seen_of k.device)
     → (v : World) → v.position ≡ k.position → v.accepted ≡ k.accepted
@@ -410,14 +410,14 @@ next_at k Gate w seen done v position accepted =
 
 pub sync_held : (w : World) (phase : Phase) (round : Round)
     → IsHeld (in_phase w phase round)
-    → MaySync phase w.device (logged w) → IsHeld (called (in_phase w phase round) Sync)
+    → MaySync phase w.device (round_commands w) → IsHeld (world_after_call (in_phase w phase round) Sync)
 sync_held w phase round held may =
     let k = core_of w in
     let now = writing_of (core_of w) w.is_open w.is_broken phase round held.placed in
     let v : World = on_device (in_phase w phase round) Sync in
     let next : Core = synced_core (core_of w) (counted_after phase v) in
-    let done : IsDone phase now.2.x (logged w) (seen_of w.device) = subst
-    (λ y. IsDone phase y (logged w) (seen_of w.device)) (one_standing may.x now.2.x may.stands now.2.stands)
+    let done : IsDone phase now.2.x (round_commands w) (seen_of w.device) = subst
+    (λ y. IsDone phase y (round_commands w) (seen_of w.device)) (one_standing may.x now.2.x may.stands now.2.stands)
     may.done in
     record {
       within = held.within;

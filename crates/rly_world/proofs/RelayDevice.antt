@@ -1,11 +1,11 @@
--- A device after one call more.
+-- A device after one more call.
 use Rattle.std.proofs.Common.{◌≡◌, ◌++◌, ◌∷◌, [], ℕ, List, refl}
 use Rattle.rly_disk.specs.Trace.{DeviceEvent, FailedRead, FailedSync, FailedWrite, Read, Sync, Write}
 use Rattle.rly_disk.specs.Trace.{images_after, images_at_end, seen_after, seen_at_end}
 use Rattle.rly_disk.proofs.Traces.{end_joined, seen_joined}
 use Rattle.rly_world.specs.RelayWorld.{Device, IsImageOf, asked_of, seen_of}
 
--- one list after the other
+-- one list after another
 end_parted : (first second : List DeviceEvent) (seen : List ℕ) (I : List ℕ → Type 0) (c : List ℕ)
     → images_at_end (first ++ second) seen I c
     → images_at_end second (seen_at_end first seen) (images_at_end first seen I) c

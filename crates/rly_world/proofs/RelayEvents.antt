@@ -1,4 +1,4 @@
--- Each event keeps what holds of a relay.
+-- Each event keeps the invariant of a relay.
 use Rattle.std.proofs.Common.{ℕ, ◌≡◌, ◌⊎◌, ◌≤◌, ◌+◌, ◌++◌, ◌∙◌, nat_le, Bool, true, false, true≢false, List, []}
 use Rattle.std.proofs.Common.{◌∷◌, Option, Some, None, length, take, drop, arith, ap, refl, sym, subst, inl, inr}
 use Rattle.std.proofs.Common.{⊎_elim, length-append, length-take}
@@ -16,21 +16,21 @@ use Rattle.rly_machine.specs.declared.reply.Reply.TheVariants.{Refused}
 use Rattle.rly_machine.specs.History.{Legal, accepted_of, is_failure, state_after}
 use Rattle.rly_machine.specs.Sound.{IsSound}
 use Rattle.rly_machine.specs.State.{State, new_state}
-use Rattle.rly_checkpoint.specs.declared.stored.Stored.{Stored}
+use Rattle.rly_segment_checkpoint.specs.declared.stored.Stored.{Stored}
 use Rattle.rly_machine.proofs.Folding.{accepted_append, accepted_parts, seq_fold}
 use Rattle.rly_machine.proofs.Histories.{folds, legal_but_for_bytes}
 use Rattle.rly_machine.proofs.Runs.{sound_from_new}
 use Rattle.rly_journal.specs.Journal.{holds_command}
 use Rattle.rly_journal.specs.Rounds.{refusals}
-use Rattle.rly_standing.specs.Standing.{Commands, IsStanding, Standing, Stands, state_in}
-use Rattle.rly_standing.proofs.Once.{stands_for_one}
-use Rattle.rly_standing.proofs.Serving.{few_accepted}
+use Rattle.rly_journal.specs.Recovery.{Commands, IsRecovery, Recovery, Stands, state_in}
+use Rattle.rly_journal.proofs.Once.{stands_for_one}
+use Rattle.rly_journal.proofs.AcceptedCounts.{few_accepted}
 use Rattle.rly_world.specs.RelayPhases.{IsDueIn, MayOpen}
-use Rattle.rly_world.specs.RelaySteps.{AreAnswered, AreShut, Event, HasPlace, IsEvaluated, MayTake, after}
-use Rattle.rly_world.specs.RelaySteps.{answered_first, called, evaluated, greatest, joined, rest_of, stopped, taken}
+use Rattle.rly_world.specs.RelaySteps.{AreAnswered, AreShut, Event, HasPlace, IsEvaluated, MayTake, world_after}
+use Rattle.rly_world.specs.RelaySteps.{answered_first, world_after_call, world_after_evaluation, greatest_position, world_after_join, rest_of, world_after_stop, world_after_take}
 use Rattle.rly_world.specs.RelaySteps as event
 use Rattle.rly_world.specs.RelayWorld.{Answering, Batch, Body, IsImageOf, Ready, Round, Seal, Stage, Taking, World}
-use Rattle.rly_world.specs.RelayWorld.{Writing, asked_of, batches_in, calls_of, has_failed_read, logged, seen_of}
+use Rattle.rly_world.specs.RelayWorld.{Writing, asked_of, batches_in, calls_of, has_failed_read, round_commands, seen_of}
 use Rattle.rly_world.specs.RelayWorld.{state_from}
 use Rattle.rly_world.proofs.RelayAnswers.{AreBelow, asked_none, below_drop, below_take, fewer_calls, greatest_below}
 use Rattle.rly_world.proofs.RelayAnswers.{refused_below, refused_none, served_below}
@@ -42,7 +42,7 @@ use Rattle.rly_world.proofs.RelayHolds.{Core, Holds, IsAt, IsCalm, IsHeld, IsKep
 use Rattle.rly_world.proofs.RelayHolds.{core_of, whole_state}
 use Rattle.rly_world.proofs.RelayPhases.{Begins, IsPhaseImage, first_image}
 
--- a world whose round is known
+-- a model state whose round is known
 pub in_round : (P : World → Type 0) (w : World) (round : Option Round) → w.round ≡ round → P w
     → P (record w { round = round })
 in_round P w round is = subst (λ r. P (record w { round = r })) is
@@ -52,12 +52,12 @@ pub from_round : (P : World → Type 0) (w : World) (round : Option Round) → w
     → P w
 from_round P w round is = subst (λ r. P (record w { round = r })) (sym is)
 
--- a round that stands somewhere
+-- a round at some stage
 pub at_stage : (w : World) (round : Round) (stage : Stage) → w.round ≡ Some round → round.stage ≡ stage
     → w.round ≡ round_at stage round
 at_stage w round stage is at = is ∙ ap (λ s. Some (record round { stage = s })) at
 
--- the accepted commands lead to a sound state, which counts them
+-- the accepted commands lead to a sound state with their number
 sound_of : (k : Core) (open_ broken : Bool) (round : Option Round) → Holds k open_ broken round
     → IsSound length (whole_state k)
 sound_of k open_ broken round held = sound_from_new length k.params k.accepted held.within
@@ -65,7 +65,7 @@ sound_of k open_ broken round held = sound_from_new length k.params k.accepted h
 count_of : (k : Core) → AllAccepted length (new_state k.params) k.accepted → (whole_state k).seq ≡ length k.accepted
 count_of k accepted = omega (arith, seq_fold length (new_state k.params) k.accepted accepted)
 
--- what was told is no more than what was accepted
+-- no more commands are acknowledged than were accepted
 told_most : (k : Core) (open_ broken : Bool) (round : Option Round) → Holds k open_ broken round
     → k.told ≤ length k.accepted
 told_most k open_ broken round held = let kept = held.kept (seen_of k.device) held.seen in
@@ -77,7 +77,7 @@ told_most k open_ broken round held = let kept = held.kept (seen_of k.device) he
 abbrev TakesMore : Option Round → Type 0
 TakesMore round = (round ≡ None) ⊎ ((r : Round) × (round ≡ Some r) × (r.stage ≡ Taking))
 
--- and has it then
+-- and then has it
 abbrev with_batch : Option Round → Batch → Round
 with_batch round batch = record {
   stage = Taking;
@@ -97,7 +97,7 @@ taking_placed k false batch (Some round) first running =
     ]
 
 joined_held : (w : World) (batch : Batch) → w.is_open ≡ true → TakesMore w.round → IsHeld w
-    → IsHeld (joined w batch)
+    → IsHeld (world_after_join w batch)
 joined_held w batch opened first held =
     by_room (nat_le (length (calls_of (batches_in w.round ++ batch ∷ []))) 64) refl
   where
@@ -124,7 +124,7 @@ may_take None (batch ∷ line) None may = inl refl
 may_take None (batch ∷ line) (Some round) may = inr (round, refl, may)
 
 taken_held : (w : World) (kept : Option Batch) (line : List Batch) → w.is_open ≡ true → TakesMore w.round → IsHeld w
-    → IsHeld (taken w kept line)
+    → IsHeld (world_after_take w kept line)
 taken_held w (Some batch) line opened first held = joined_held (record w { kept = None }) batch opened first held
 taken_held w None (batch ∷ line) opened first held = joined_held (record w { line = line }) batch opened first held
 taken_held w None [] opened first held = held
@@ -174,8 +174,8 @@ opens_held w segment copy round whole may held =
             counted = omega (arith, calm.counted);
             begins = (may.2, none);
             images =
-                λ c image. subst (IsPhaseImage (Seal segment copy) may.0 (logged w) w.device.synced)
-                (sym (calm.only c image)) (first_image (Seal segment copy) may.0 (logged w) w.device.synced);
+                λ c image. subst (IsPhaseImage (Seal segment copy) may.0 (round_commands w) w.device.synced)
+                (sym (calm.only c image)) (first_image (Seal segment copy) may.0 (round_commands w) w.device.synced);
           }));
     }
 
@@ -198,16 +198,16 @@ served_of k calls given all counted legal =
       below = subst (λ n. AreBelow n given) count (served_below 0 (whole_state k) calls given counted legal);
     }
 
--- a round that has other answers
+-- a round that has other replies
 abbrev giving : Round → List Answer → Round
 giving round given = record round { answers = given }
 
--- nothing was accepted, and the answers tell nothing new
+-- no command was accepted, and the replies acknowledge nothing new
 evaluated_none : (w : World) (round : Round) (given : List Answer)
     → IsHeld (record w { round = Some round })
     → (IsRunning (core_of w) w.is_broken (Some round)
     → IsRunning (core_of w) w.is_broken (round_at Answering (giving round given)))
-    → IsHeld (evaluated (record w { round = Some round }) given [])
+    → IsHeld (world_after_evaluation (record w { round = Some round }) given [])
 evaluated_none w round given held leads =
     subst (λ a. Holds (record (core_of w) { accepted = a }) w.is_open w.is_broken
     (round_at Answering (giving round given))) (sym (append-nil w.accepted))
@@ -222,7 +222,7 @@ evaluated_none w round given held leads =
           round (round_at Answering (giving round given)) held.placed leads;
     })
 
--- something was accepted, and is written
+-- some command was accepted, and is written
 evaluated_some : (w : World) (round : Round) (given : List Answer) (commands : Commands)
     → (round.stage ≡ Taking) ⊎ (round.stage ≡ Ready) → w.is_broken ≡ false
     → 1 ≤ length commands → length commands ≤ 64 → (IsDueIn w.device.synced → ⊥)
@@ -234,8 +234,8 @@ evaluated_some w round given commands first whole some few roomy held served =
     let now = calm_of (core_of w) w.is_open w.is_broken round first whole held.placed in
     let calm : IsCalm (core_of w) = now.1 in
     let next : Core = record (core_of w) { accepted = w.accepted ++ commands } in
-    let x : Standing = calm.stands.0 in
-    let stands : IsStanding w.device.synced calm.stands.0 = calm.stands.1 in
+    let x : Recovery = calm.stands.0 in
+    let stands : IsRecovery w.device.synced calm.stands.0 = calm.stands.1 in
     let state : state_in calm.stands.0 ≡ whole_state (core_of w) = sym calm.stands.2 in
     let sound : IsSound length (state_in calm.stands.0) = subst (IsSound length) (sym state)
     (sound_of (core_of w) w.is_open w.is_broken (Some round) held) in
@@ -272,7 +272,7 @@ evaluated_some w round given commands first whole some few roomy held served =
           (subst (λ n. AreBelow n given) (sym size) served.below) written);
     }
 
--- calls that hold accepted commands hold commands
+-- calls with accepted commands have commands
 by_test : (b : Bool) → (b ≡ false → ⊥) → b ≡ true
 by_test true never = refl
 by_test false never = absurd (never refl)
@@ -285,7 +285,7 @@ some_asked calls given some =
 answered_held : (w : World) (round : Round) (given : List Answer)
     → (round.stage ≡ Taking) ⊎ (round.stage ≡ Ready) → w.is_broken ≡ false
     → AreAnswered w (calls_of round.batches) given → IsHeld (record w { round = Some round })
-    → IsHeld (evaluated (record w { round = Some round }) given (accepted_of (zip (calls_of round.batches) given)))
+    → IsHeld (world_after_evaluation (record w { round = Some round }) given (accepted_of (zip (calls_of round.batches) given)))
 answered_held w round given first whole evaluation held =
     by_commands (accepted_of (zip (calls_of round.batches) given)) refl
     (served_of (core_of w) (calls_of round.batches) given held.accepted evaluation.count evaluation.legal)
@@ -296,7 +296,7 @@ answered_held w round given first whole evaluation held =
 
     by_commands : (commands : Commands) → accepted_of (zip (calls_of round.batches) given) ≡ commands
         → IsServed (core_of w) (calls_of round.batches) given commands
-        → IsHeld (evaluated (record w { round = Some round }) given commands)
+        → IsHeld (world_after_evaluation (record w { round = Some round }) given commands)
     by_commands [] are served =
         let now = calm_of (core_of w) w.is_open w.is_broken round first whole held.placed in
         evaluated_none w round given held
@@ -315,12 +315,12 @@ refused_held : (w : World) (round : Round) (given : List Answer) (refusal : Refu
     → given ≡ refusals refusal w.position (calls_of round.batches)
     → IsHeld (record w { round = Some round })
     → (((n : ℕ) → AreBelow n given) → IsRunning (core_of w) w.is_broken (round_at Answering (giving round given)))
-    → IsHeld (evaluated (record w { round = Some round }) given (accepted_of (zip (calls_of round.batches) given)))
+    → IsHeld (world_after_evaluation (record w { round = Some round }) given (accepted_of (zip (calls_of round.batches) given)))
 refused_held w round given refusal fails refused held leads =
     let none : accepted_of (zip (calls_of round.batches) given) ≡ [] =
     ap (λ l. accepted_of (zip (calls_of round.batches) l)) refused
     ∙ refused_none refusal w.position (calls_of round.batches) in
-    subst (λ c. IsHeld (evaluated (record w { round = Some round }) given c)) (sym none)
+    subst (λ c. IsHeld (world_after_evaluation (record w { round = Some round }) given c)) (sym none)
     (evaluated_none w round given held
     (λ running. leads (λ n. subst (AreBelow n) (sym refused)
     (refused_below refusal n w.position (calls_of round.batches) fails))))
@@ -328,7 +328,7 @@ refused_held w round given refusal fails refused held leads =
 shut_held : (w : World) (round : Round) (given : List Answer)
     → (round.stage ≡ Taking) ⊎ (round.stage ≡ Ready) → w.is_broken ≡ false
     → AreShut w (calls_of round.batches) given → IsHeld (record w { round = Some round })
-    → IsHeld (evaluated (record w { round = Some round }) given (accepted_of (zip (calls_of round.batches) given)))
+    → IsHeld (world_after_evaluation (record w { round = Some round }) given (accepted_of (zip (calls_of round.batches) given)))
 shut_held w round given first whole shut held = ⊎_elim
     (λ refused. refused_held w round given OutOfMemory refl refused held still)
     (λ refused. refused_held w round given DeviceRead refl refused held still)
@@ -342,7 +342,7 @@ evaluates_held : (w : World) (round : Round) (given : List Answer)
     → (round.stage ≡ Taking) ⊎ (round.stage ≡ Ready) → (broken : Bool) → w.is_broken ≡ broken
     → IsEvaluated broken w (calls_of round.batches) given
     → IsHeld (record w { round = Some round })
-    → IsHeld (evaluated (record w { round = Some round }) given (accepted_of (zip (calls_of round.batches) given)))
+    → IsHeld (world_after_evaluation (record w { round = Some round }) given (accepted_of (zip (calls_of round.batches) given)))
 evaluates_held w round given first true broken refused held =
     refused_held w round given Broken refl refused held
     (λ below. subst (λ b. IsRunning (core_of w) b (round_at Answering (giving round given))) (sym broken) below)
@@ -351,9 +351,9 @@ evaluates_held w round given first false whole evaluation held = ⊎_elim
     (λ shut. shut_held w round given first whole shut held)
     evaluation
 
--- ---- answers
+-- ---- replies
 
--- with what was told since
+-- with the commands acknowledged since
 abbrev with_told : Core → ℕ → Core
 with_told k told = record k { told = told }
 
@@ -372,7 +372,7 @@ put_running k told false round (batch ∷ rest) count running =
 put_kept : (k : Core) (opened broken : Bool) (round : Round) (count : ℕ)
     → Holds k opened broken (round_at Answering round)
     → (image : List ℕ) → IsImageOf k.device image
-    → IsKept (with_told k (greatest k.told (take count round.answers))) image
+    → IsKept (with_told k (greatest_position k.told (take count round.answers))) image
 put_kept k true true round count held image left =
     let was = held.kept image left in
     let most = greatest_below k.told k.told (take count round.answers) (omega arith)
@@ -382,8 +382,8 @@ put_kept k true false round count held image left =
     let most = greatest_below (length k.accepted) k.told (take count round.answers)
     (told_most k true false (round_at Answering round) held)
     (below_take (length k.accepted) count round.answers held.placed.0) in
-    let kept = calm_kept (with_told k (greatest k.told (take count round.answers)))
-    (told_calm k (greatest k.told (take count round.answers)) held.placed.1) most image left in
+    let kept = calm_kept (with_told k (greatest_position k.told (take count round.answers)))
+    (told_calm k (greatest_position k.told (take count round.answers)) held.placed.1) most image left in
     kept
 put_kept k false broken round count held image left =
     let e : round_at Answering round ≡ None = held.placed in absurd cc
@@ -399,7 +399,7 @@ put_held : (w : World) (round : Round) (batches : List Batch) → round.batches 
     (answered_first (record w { round = round_at Answering round }) (record round { stage = Answering }) batches)
 put_held w round [] are held = held
 put_held w round (batch ∷ rest) are held =
-    let told : ℕ = greatest w.told (take (length batch) round.answers) in
+    let told : ℕ = greatest_position w.told (take (length batch) round.answers) in
     record {
       within = held.within;
       accepted = held.accepted;
@@ -415,9 +415,9 @@ put_held w round (batch ∷ rest) are held =
 
 -- ---- crashes and openings
 
--- a device that holds one image
+-- a device with exactly one image
 stopped_held : (w : World) (image : List ℕ) → IsHeld w → IsKept (core_of w) image
-    → IsHeld (stopped w (record { synced = image; since = [] }))
+    → IsHeld (world_after_stop w (record { synced = image; since = [] }))
 stopped_held w image held kept = record {
   within = held.within;
   accepted = held.accepted;
@@ -434,7 +434,7 @@ stopped_held w image held kept = record {
   placed = refl;
 }
 
-unsynced_held : (w : World) → IsHeld w → IsHeld (stopped w (asked_of w.device FailedSync))
+unsynced_held : (w : World) → IsHeld w → IsHeld (world_after_stop w (asked_of w.device FailedSync))
 unsynced_held w held =
     let still = failed_sync_held w held in
     record {
@@ -446,7 +446,7 @@ unsynced_held w held =
       placed = refl;
     }
 
-opening_held : (w : World) (s : State (List ℕ)) → Stands (seen_of w.device) s → IsHeld w → IsHeld (event.opened w s)
+opening_held : (w : World) (s : State (List ℕ)) → Stands (seen_of w.device) s → IsHeld w → IsHeld (event.world_after_opening w s)
 opening_held w s found held =
     let kept = held.kept (seen_of w.device) held.seen in
     let same : s ≡ state_from w.params (take kept.n w.accepted) = stands_for_one (seen_of w.device) s
@@ -457,8 +457,8 @@ opening_held w s found held =
     let count : s.seq ≡ kept.n = omega
     (arith, ap (λ t. t.seq) same, seq_fold length (new_state w.params) (take kept.n w.accepted) parts.0, size) in
     let cut : take s.seq w.accepted ≡ take kept.n w.accepted = ap (λ n. take n w.accepted) count in
-    let next : Core = core_of (event.opened w s) in
-    let calm : IsCalm (core_of (event.opened w s)) = record {
+    let next : Core = core_of (event.world_after_opening w s) in
+    let calm : IsCalm (core_of (event.world_after_opening w s)) = record {
       only = λ c is. is;
       stands = subst (Stands (seen_of w.device)) (same ∙ ap (state_from w.params) (sym cut)) found;
       counted = omega (arith, count, ap length cut, size);
@@ -474,45 +474,45 @@ opening_held w s found held =
 
 -- ---- all events
 
-called_held : (w : World) (call : DeviceEvent) → HasPlace w (event.Calls call) → IsHeld w → IsHeld (called w call)
+called_held : (w : World) (call : DeviceEvent) → HasPlace w (event.Calls call) → IsHeld w → IsHeld (world_after_call w call)
 called_held w (Read place count) may held = read_held w place count held
 called_held w (FailedRead place count) may held = failed_read_held w place count held
 called_held w (Write place bytes) may held =
     let is = at_stage w may.0 (Writing may.2.0) may.1 may.2.1 in
-    from_round (λ v. IsHeld (called v (Write place bytes))) w (round_at (Writing may.2.0) may.0) is
+    from_round (λ v. IsHeld (world_after_call v (Write place bytes))) w (round_at (Writing may.2.0) may.0) is
     (write_held w may.2.0 may.0 place bytes
     (in_round IsHeld w (round_at (Writing may.2.0) may.0) is held) may.2.2)
 called_held w (FailedWrite place bytes left) may held =
     let is = at_stage w may.0 (Writing may.2.0) may.1 may.2.1 in
-    from_round (λ v. IsHeld (called v (FailedWrite place bytes left))) w (round_at (Writing may.2.0) may.0) is
+    from_round (λ v. IsHeld (world_after_call v (FailedWrite place bytes left))) w (round_at (Writing may.2.0) may.0) is
     (broke_held (record w { device = asked_of w.device (FailedWrite place bytes left) }) may.2.0 may.0
     (failed_write_held w may.2.0 may.0 place bytes left
     (in_round IsHeld w (round_at (Writing may.2.0) may.0) is held) may.2.2))
 called_held w Sync may held =
     let is = at_stage w may.0 (Writing may.2.0) may.1 may.2.1 in
-    from_round (λ v. IsHeld (called v Sync)) w (round_at (Writing may.2.0) may.0) is
+    from_round (λ v. IsHeld (world_after_call v Sync)) w (round_at (Writing may.2.0) may.0) is
     (sync_held w may.2.0 may.0 (in_round IsHeld w (round_at (Writing may.2.0) may.0) is held) may.2.2)
 called_held w FailedSync may held =
     let is = at_stage w may.0 (Writing may.2.0) may.1 may.2.1 in
-    from_round (λ v. IsHeld (called v FailedSync)) w (round_at (Writing may.2.0) may.0) is
+    from_round (λ v. IsHeld (world_after_call v FailedSync)) w (round_at (Writing may.2.0) may.0) is
     (broke_held (record w { device = asked_of w.device FailedSync }) may.2.0 may.0
     (failed_sync_held (in_phase w may.2.0 may.0) (in_round IsHeld w (round_at (Writing may.2.0) may.0) is held)))
 
-pub after_held : (w : World) (e : Event) → HasPlace w e → IsHeld w → IsHeld (after w e)
+pub after_held : (w : World) (e : Event) → HasPlace w e → IsHeld w → IsHeld (world_after w e)
 after_held w (event.Put seat asks) may held = held
 after_held w event.Takes may held = taken_held w w.kept w.line may.0 (may_take w.kept w.line w.round may.1) held
 after_held w (event.Opens segment copy) may held =
     let is = at_stage w may.2.0 Taking may.2.1 may.2.2.0 in
-    from_round (λ v. IsHeld (after v (event.Opens segment copy))) w (round_at Taking may.2.0) is
+    from_round (λ v. IsHeld (world_after v (event.Opens segment copy))) w (round_at Taking may.2.0) is
     (opens_held w segment copy may.2.0 may.0 may.1 (in_round IsHeld w (round_at Taking may.2.0) is held))
 after_held w (event.Evaluates given) may held =
-    from_round (λ v. IsHeld (after v (event.Evaluates given))) w (Some may.0) may.1
+    from_round (λ v. IsHeld (world_after v (event.Evaluates given))) w (Some may.0) may.1
     (evaluates_held w may.0 given may.2.0 w.is_broken refl may.2.1
     (in_round IsHeld w (Some may.0) may.1 held))
 after_held w (event.Calls call) may held = called_held w call may held
 after_held w event.Answers may held =
     let is = at_stage w may.0 Answering may.1 may.2.0 in
-    from_round (λ v. IsHeld (after v event.Answers)) w (round_at Answering may.0) is
+    from_round (λ v. IsHeld (world_after v event.Answers)) w (round_at Answering may.0) is
     (put_held w may.0 may.0.batches refl (in_round IsHeld w (round_at Answering may.0) is held))
 after_held w (event.Hears seat) may held = held
 after_held w event.Packet may held = held

@@ -1,17 +1,17 @@
--- What holds of a relay after every list of events.
+-- The invariant of a relay.
 use Rattle.std.proofs.Common.{ℕ, ◌≡◌, ◌≤◌, Bool, true, false, List, Option, Some, None, length, take, drop}
 use Rattle.rly_core.specs.Limits.{IsWithinLimits}
 use Rattle.rly_core.specs.declared.params.Params.{Params}
 use Rattle.rly_machine.specs.declared.call.Answer.{Answer}
 use Rattle.rly_machine.specs.Fold.{AllAccepted}
 use Rattle.rly_machine.specs.State.{State, new_state}
-use Rattle.rly_standing.specs.Standing.{Commands, IsStanding, Standing, Stands, state_in}
+use Rattle.rly_journal.specs.Recovery.{Commands, IsRecovery, Recovery, Stands, state_in}
 use Rattle.rly_world.specs.RelayWorld.{Answering, Device, IsImageOf, Phase, Ready, Round, Stage, Taking, World, Writing}
 use Rattle.rly_world.specs.RelayWorld.{batches_in, calls_of, seen_of, state_from}
 use Rattle.rly_world.proofs.RelayAnswers.{AreBelow}
 use Rattle.rly_world.proofs.RelayPhases.{Begins, IsPhaseImage}
 
--- what the device and the accepted commands have to do with one another
+-- the relation of the device to the accepted commands
 pub record Core : Type 0 where
   pub params : Params
   pub device : Device
@@ -26,14 +26,14 @@ core_of w = record { params = w.params; device = w.device; accepted = w.accepted
 abbrev pub whole_state : Core → State (List ℕ)
 whole_state k = state_from k.params k.accepted
 
--- an image stands for the first n accepted commands, and nothing was told of more
+-- an image recovers to the first n accepted commands, and no more were acknowledged
 pub record IsKept (k : Core) (image : List ℕ) : Type 0 where
   pub n : ℕ
   pub told : k.told ≤ n
   pub most : n ≤ length k.accepted
   pub stands : Stands image (state_from k.params (take n k.accepted))
 
--- between phases: nothing is pending, and all accepted commands stand
+-- between phases: no write is pending, and all accepted commands are recovered
 pub record IsCalm (k : Core) : Type 0 where
   pub only : (c : List ℕ) → IsImageOf k.device c → c ≡ k.device.synced
   pub stands : Stands k.device.synced (whole_state k)
@@ -41,8 +41,8 @@ pub record IsCalm (k : Core) : Type 0 where
 
 -- in a phase
 pub record IsWritten (phase : Phase) (k : Core) : Type 0 where
-  pub x : Standing
-  pub stands : IsStanding k.device.synced x
+  pub x : Recovery
+  pub stands : IsRecovery k.device.synced x
   pub state : state_in x ≡ state_from k.params (take k.position k.accepted)
   pub told : k.told ≤ k.position
   pub counted : k.position ≤ length k.accepted
@@ -55,7 +55,7 @@ IsAt k Ready = IsCalm k
 IsAt k Answering = IsCalm k
 IsAt k (Writing phase) = IsWritten phase k
 
--- of a broken relay: only failures are told, and no phase is left
+-- in a broken relay: only failures are reported, and no phase remains
 abbrev pub IsBrokenAt : Stage → List Answer → Type 0
 IsBrokenAt Taking answers = Unit {0}
 IsBrokenAt Ready answers = Unit {0}

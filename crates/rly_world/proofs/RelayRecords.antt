@@ -1,4 +1,4 @@
--- An accepted command has a record, and accepted commands of one round may be one group.
+-- An accepted command has a record, and accepted commands of one round can form one group.
 use Rattle.std.proofs.Common.{ℕ, ◌≡◌, ◌≤◌, ◌<◌, ◌+◌, ◌-◌, true, List, [], ◌∷◌, Option, Some, None, length, ap, refl, subst, arith}
 use Rattle.std.specs.List.{AllByRecursion}
 use Rattle.std.proofs.lemmas.List.Elements.{All-get_or}
@@ -19,9 +19,9 @@ use Rattle.rly_machine.proofs.RealReplies.{counted}
 use Rattle.rly_machine.proofs.Refusals.{may_pick, may_release, may_take}
 use Rattle.rly_machine.proofs.Runs.{sound_step}
 use Rattle.rly_record.specs.Spelling.{HasRecord, IsShort}
-use Rattle.rly_standing.specs.Standing.{Commands}
+use Rattle.rly_journal.specs.Recovery.{Commands}
 
--- a step that counts was refused by no check
+-- a step that is counted passed all checks
 pub unrefused : (refusal : Option Reply) (s : State (List ℕ)) (accepted : State (List ℕ) × Reply)
     → (unless refusal s accepted).0.seq ≡ s.seq + 1 → refusal ≡ None
 unrefused None s accepted counts = refl
@@ -70,7 +70,7 @@ accepted_records s (command ∷ commands) sound all = (
       (sound_step length s command sound) all.1,
 )
 
--- and its payload is no longer than those of its spool
+-- and its payload is within its spool's limit
 accepted_short : (s : State (List ℕ)) (command : Command (List ℕ)) → is_accepted (step length s command).1 ≡ true
     → IsShort s.params.payload command
 accepted_short s (Take peer number hop stamp limit payload) accepts =

@@ -1,4 +1,4 @@
--- A relay on a new device, and the law of all that comes after.
+-- A relay on a new device, and the law of all later events.
 use Rattle.std.proofs.Common.{ℕ, ◌≡◌, ◌≤◌, List, length, length-take, take, drop, arith, refl, subst, sym}
 use Rattle.std.proofs.lemmas.List.{take-append-drop}
 use Rattle.rly_core.specs.declared.params.Geometry.{Geometry}
@@ -6,8 +6,8 @@ use Rattle.rly_machine.specs.Fold.{AllAccepted}
 use Rattle.rly_machine.specs.State.{new_state}
 use Rattle.rly_machine.proofs.Folding.{accepted_parts, seq_fold}
 use Rattle.rly_segment.specs.Formatted.{IsFormatted}
-use Rattle.rly_standing.specs.Standing.{Stands}
-use Rattle.rly_standing.proofs.Growing.{formatted_stands}
+use Rattle.rly_journal.specs.Recovery.{Stands}
+use Rattle.rly_journal.proofs.Growing.{formatted_stands}
 use Rattle.rly_world.specs.RelayLaw.{HoldsTold}
 use Rattle.rly_world.specs.RelaySteps.{Event, Run}
 use Rattle.rly_world.specs.RelayWorld.{IsImageOf, World, new_world, state_from}

@@ -1,34 +1,35 @@
--- A standing while the bytes of a segment change in which no live payload lies, and a head that may be written there.
+-- The recovered content while the bytes of a segment without live payloads change, and a head that may be written
+-- there.
 use Rattle.std.proofs.Common.{◌≡◌, ◌∙◌, ℕ, List, arith, sym, subst, inl, inr}
 use Rattle.std.proofs.lemmas.Bool.{cases_eq}
 use Rattle.std.proofs.lemmas.List.Elements.{All-weaker}
 use Rattle.rly_disk.specs.DiskModel.{SameOutside}
 use Rattle.rly_machine.specs.Map.{payloads_of}
 use Rattle.rly_machine.specs.State.{State}
-use Rattle.rly_checkpoint.specs.declared.stored.Stored.{Stored}
+use Rattle.rly_segment_checkpoint.specs.declared.stored.Stored.{Stored}
 use Rattle.rly_gate.specs.Group.{IsClosed}
-use Rattle.rly_places.specs.Placed.{LiesElsewhere}
+use Rattle.rly_reclaim.specs.Placed.{LiesElsewhere}
 use Rattle.rly_segment.specs.Heads.{IsPassedOver, segment_place}
-use Rattle.rly_standing.specs.Framing.{IsHeadFor, IsUntouched, SamePayload}
-use Rattle.rly_standing.specs.Standing.{IsStanding, Standing, first_of, gate_of, state_in, stored_in}
-use Rattle.rly_standing.proofs.Agreeing.{other_bytes, same_before}
-use Rattle.rly_standing.proofs.Frame.{gate_above}
-use Rattle.rly_standing.proofs.Framing.{read_in, untouched}
-use Rattle.rly_standing.proofs.Growing.{gate_of-within, long_segments, other_heads}
-use Rattle.rly_standing.proofs.Inlining.{elsewhere_still, lies_still}
+use Rattle.rly_journal.specs.UntouchedBytes.{IsHeadFor, IsUntouched, SamePayload}
+use Rattle.rly_journal.specs.Recovery.{IsRecovery, Recovery, first_of, gate_of, state_in, stored_in}
+use Rattle.rly_journal.proofs.Agreeing.{other_bytes, same_before}
+use Rattle.rly_journal.proofs.Frame.{gate_above}
+use Rattle.rly_journal.proofs.UntouchedBytes.{read_in, untouched}
+use Rattle.rly_journal.proofs.Growing.{gate_of-within, long_segments, other_heads}
+use Rattle.rly_journal.proofs.Inlining.{elsewhere_still, lies_still}
 
--- on another image it is the same standing, but for the bytes of payloads that aren't live, and the head may be written
--- there too
-pub record IsStill (x : Standing) (segment : ℕ) (copy : State Stored) (image : List ℕ) : Type 0 where
-  pub stands : IsStanding image (read_in image x)
+-- on another image the content is the same, except for the bytes of payloads that aren't live, and the head may be
+-- written there too
+pub record IsStill (x : Recovery) (segment : ℕ) (copy : State Stored) (image : List ℕ) : Type 0 where
+  pub stands : IsRecovery image (read_in image x)
   pub state : state_in (read_in image x) ≡ state_in x
   pub head : IsHeadFor image (read_in image x) segment copy
 
-module _ {old image : List ℕ} (x : Standing) (segment : ℕ) (copy : State Stored) (stands : IsStanding old x)
+module _ {old image : List ℕ} (x : Recovery) (segment : ℕ) (copy : State Stored) (stands : IsRecovery old x)
     (for : IsHeadFor old x segment copy)
     (outside : SameOutside (segment_place x.geometry segment) x.geometry.length old image)
     (closed : IsClosed image (segment_place x.geometry segment)) where
-  -- what it stands for lies outside the segment, whose head isn't newer while its gate is closed
+  -- the bytes that it recovers from lie outside the segment, whose head isn't newer while its gate is closed
   target_untouched : IsUntouched x old image
   target_untouched =
       let within = gate_of-within x stands.scanned in

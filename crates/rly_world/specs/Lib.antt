@@ -7,4 +7,5 @@ pub mod PairEnd
 pub mod PairCores
 pub mod PairWorld
 pub mod PairExchange
-pub mod PairWaiting
+pub mod PairWaits
+pub mod KeyedWorld

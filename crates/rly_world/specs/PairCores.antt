@@ -1,4 +1,4 @@
--- What the cores of two ends ask of their spools and are told of the replies.
+-- The requests of the cores of two ends to their spools, and the replies as the cores receive them.
 use Rattle.std.specs.Prelude.{ℕ, ◌==◌, Bool, false, List, [], ◌∷◌, Option, Some, None}
 use Rattle.rly_core.specs.declared.ids.HopId.{HopId}
 use Rattle.rly_core.specs.declared.ids.PeerId.{PeerId}
@@ -18,7 +18,7 @@ use Rattle.rly_machine.specs.declared.command.Query.TheVariants as query
 use Rattle.rly_machine.specs.declared.reply.Reply.{Reply}
 use Rattle.rly_machine.specs.declared.reply.Reply.TheVariants as reply
 
--- the call that a sending core names to a hop, a Pick at this moment; and the message that it sends
+-- the request of a sending core for a hop, with a Pick at this time; and the message that it sends
 abbrev pub sender_asks : HopId → ℕ → Option (OutAction (List ℕ)) → List Ask
 sender_asks hop moment (Some out_action.AskWindow) = Query (query.Window hop) ∷ []
 sender_asks hop moment (Some (out_action.Release number)) = Command (command.Release hop number) ∷ []
@@ -35,8 +35,8 @@ sender_sends (Some (out_action.Fetch number)) = []
 sender_sends (Some out_action.Pick) = []
 sender_sends None = []
 
--- the call that a receiving core names for a peer, of a datagram for this hop with this stamp and the limit that it
--- came with; and the message that it sends
+-- the request of a receiving core for a peer, with a datagram for this hop with this stamp and its own limit; and the
+-- message that it sends
 abbrev pub receiver_asks : PeerId → HopId → ℕ → Option (InAction (List ℕ)) → List Ask
 receiver_asks peer hop stamp (Some (in_action.Take number limit payload)) =
     Command (command.Take peer number hop stamp limit payload) ∷ []
@@ -48,14 +48,14 @@ receiver_sends (Some (in_action.Send m)) = m ∷ []
 receiver_sends (Some (in_action.Take number limit payload)) = []
 receiver_sends None = []
 
--- what a sending core is told of bytes with their limit: they are those under the number that it asked for
+-- the event for a sending core from bytes with their limit: they are those under the number that it requested
 abbrev pub fetched_event : Ask → List ℕ → ℕ → OutEvent (List ℕ)
 fetched_event (Query (query.Fetch hop number)) payload limit = event.Fetched number limit payload
 fetched_event (Query (query.Window hop)) payload limit = event.Other
 fetched_event (Query (query.Show hop)) payload limit = event.Other
 fetched_event (Command any) payload limit = event.Other
 
--- what a sending core is told of the reply to its call
+-- the event for a sending core from the reply to its request
 abbrev pub sender_event : Ask → Reply → OutEvent (List ℕ)
 sender_event ask (reply.WindowIs first next) = event.WindowIs first next
 sender_event ask (reply.Picked number id expired dropped) = event.Picked number
@@ -68,7 +68,7 @@ sender_event ask (reply.Taken id) = event.Other
 sender_event ask (reply.Already last) = event.Other
 sender_event ask (reply.Shown status) = event.Other
 
--- what a receiving core is told of the reply to its Take
+-- the result for a receiving core from the reply to its Take
 abbrev pub take_answer : Reply → TakeAnswer
 take_answer (reply.Taken id) = answer.Taken
 take_answer (reply.Already last) = answer.Already last
@@ -81,14 +81,14 @@ take_answer (reply.Bytes payload limit) = answer.Other
 take_answer (reply.WindowIs first next) = answer.Other
 take_answer (reply.Shown status) = answer.Other
 
--- the calls that the sending core of a hop alone makes: its Picks and Releases
+-- the requests that only the sending core of a hop makes: its Picks and Releases
 abbrev pub is_for_sender : HopId → Ask → Bool
 is_for_sender hop (Command (command.Pick to now)) = to.0 == hop.0
 is_for_sender hop (Command (command.Release to number)) = to.0 == hop.0
 is_for_sender hop (Command (command.Take peer number to stamp limit payload)) = false
 is_for_sender hop (Query any) = false
 
--- the calls that the receiving cores of a peer alone make: its Takes
+-- the requests that only the receiving cores of a peer make: its Takes
 abbrev pub is_for_receiver : PeerId → Ask → Bool
 is_for_receiver peer (Command (command.Take from number hop stamp limit payload)) = from.0 == peer.0
 is_for_receiver peer (Command (command.Pick to now)) = false

@@ -1,5 +1,5 @@
--- A worked exchange of two relays: three datagrams, of which the second comes first, a copy, a crash of the lower
--- before it answers, and a crash of the upper.
+-- A worked exchange of two relays: three datagrams, the second of which arrives first, a duplicate, a crash of the
+-- lower before its reply, and a crash of the upper.
 use Rattle.std.specs.Prelude.{ℕ, ◌*◌, true, List, [], ◌∷◌, ◌++◌}
 use Rattle.rly_core.specs.declared.params.Params.{Params}
 use Rattle.rly_hop.specs.declared.message.Message.{Message}
@@ -42,19 +42,19 @@ exchange_setup = record {
 abbrev pub comes_in : ℕ → PairEvent
 comes_in n = UpperServes (Command (Take (record { 0 = 1 }) n (record { 0 = 1 }) 0 (1000 * n) (n ∷ []))) Done true
 
--- the sending core names a call, which is made and answered
+-- the sending core makes a request, and gets its reply
 abbrev pub one_call : List PairEvent
 one_call = Turns true 0 ∷ UpperMakes Done ∷ UpperAnswers true ∷ []
 
 -- a packet arrives at the lower, and its Take is made
-abbrev pub arrives : ℕ → List PairEvent
-arrives packet = LowerHears packet 0 (record { 0 = 1 }) 0 ∷ LowerMakes Done ∷ []
+abbrev pub arrival_events : ℕ → List PairEvent
+arrival_events packet = LowerHears packet 0 (record { 0 = 1 }) 0 ∷ LowerMakes Done ∷ []
 
 abbrev pub arrives_answered : ℕ → List PairEvent
-arrives_answered packet = arrives packet ++ LowerAnswers true ∷ []
+arrives_answered packet = arrival_events packet ++ LowerAnswers true ∷ []
 
 -- Three datagrams come in, and are sent as packets 0 to 2. Data 2 arrives, then Data 1, then Data 1 again; their
--- answers are packets 3 to 5. The upper releases 1.
+-- replies are packets 3 to 5. The upper releases 1.
 abbrev pub exchange_begins : List PairEvent
 exchange_begins =
     comes_in 1 ∷ comes_in 2 ∷ comes_in 3 ∷ one_call
@@ -62,16 +62,16 @@ exchange_begins =
     ++ arrives_answered 1 ++ UpperHears 3 ∷ arrives_answered 0 ++ arrives_answered 0
     ++ UpperHears 4 ∷ one_call ++ UpperHears 5 ∷ []
 
--- The lower crashes before it answers Data 2, and keeps so many commands. Data 2 arrives again, and is answered by
--- packet 6. The upper releases 2, crashes, and asks for its window.
+-- The lower crashes before its reply to Data 2, and keeps the given number of commands. Data 2 arrives again, with the
+-- reply in packet 6. The upper releases 2, crashes, and queries its window.
 abbrev pub exchange_ends : ℕ → List PairEvent
 exchange_ends kept =
-    arrives 1 ++ LowerCrashes kept true ∷ arrives_answered 1
+    arrival_events 1 ++ LowerCrashes kept true ∷ arrives_answered 1
     ++ UpperHears 6 ∷ one_call ++ UpperCrashes 8 true ∷ one_call
 
 -- the two relays after it
-abbrev pub exchanged : ℕ → PairWorld
-exchanged kept = pair_after (pair_start exchange_setup) (exchange_begins ++ exchange_ends kept)
+abbrev pub world_after_exchange : ℕ → PairWorld
+world_after_exchange kept = pair_after (pair_start exchange_setup) (exchange_begins ++ exchange_ends kept)
 
 -- a datagram of the exchange
 abbrev pub datagram : ℕ → Numbered (List ℕ)

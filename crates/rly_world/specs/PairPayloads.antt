@@ -1,4 +1,5 @@
--- What went through a spool, by the replies to its commands: what came from a peer, and what went into a hop's flight.
+-- The datagrams through a spool, from the replies to its commands: those taken from a peer, and those that went into a
+-- hop's flight.
 use Rattle.std.specs.Prelude.{ℕ, ◌+◌, ◌==◌, ◌≡◌, if◌then◌else◌, Some}
 use Rattle.std.specs.Prelude.{List, [], ◌∷◌, ◌++◌, length, map, take, drop, slice_get}
 use Rattle.rly_core.specs.declared.ids.HopId.{HopId}
@@ -17,27 +18,27 @@ pub record Numbered (P : Type 0) : Type 0 where
   pub limit : ℕ
   pub payload : P
 
--- what items bear: each payload with its limit
+-- the payloads of items, each with its limit
 abbrev pub borne_by : {P : Type 0} → List (Item P) → List (ℕ × P)
 borne_by items = map (λ item. (item.limit, item.payload)) items
 
-abbrev pub borne : {P : Type 0} → Numbered P → ℕ × P
-borne one = (one.limit, one.payload)
+abbrev pub number_and_payload : {P : Type 0} → Numbered P → ℕ × P
+number_and_payload one = (one.limit, one.payload)
 
--- what a command took from a peer, by its reply
+-- the datagram that a command took from a peer, by its reply
 abbrev pub taken_by : {P : Type 0} → PeerId → Command P → Reply → List (Numbered P)
 taken_by peer (Take from number to stamp limit payload) (Taken id) =
     if from.0 == peer.0 then (record { number = number; limit = limit; payload = payload }) ∷ [] else []
 taken_by peer _ _ = []
 
--- what the accepted Takes among some commands took from a peer, in order
-abbrev pub taken : {P : Type 0} → (P → ℕ) → PeerId → State P → List (Command P) → List (Numbered P)
-taken len peer s [] = []
-taken len peer s (command ∷ commands) =
-    taken_by peer command (step len s command).1 ++ taken len peer (step len s command).0 commands
+-- the datagrams that the accepted Takes of a list of commands took from a peer, in order
+abbrev pub taken_payloads : {P : Type 0} → (P → ℕ) → PeerId → State P → List (Command P) → List (Numbered P)
+taken_payloads len peer s [] = []
+taken_payloads len peer s (command ∷ commands) =
+    taken_by peer command (step len s command).1 ++ taken_payloads len peer (step len s command).0 commands
 
--- what a command put into the flight of a hop, by its reply: the first that waits after those expired and
--- dropped
+-- the datagram that a command put into the flight of a hop, by its reply: the first waiting one after the expired and
+-- dropped ones
 abbrev pub picked_by : {P : Type 0} → HopId → HopState P → Command P → Reply → List (Numbered P)
 picked_by hop h (Pick to now) (Picked number id expired dropped) =
     if to.0 == hop.0
@@ -46,16 +47,17 @@ picked_by hop h (Pick to now) (Picked number id expired dropped) =
     else []
 picked_by hop h _ _ = []
 
--- what the accepted Picks among some commands put into the flight of a hop, in order
-abbrev pub picked : {P : Type 0} → (P → ℕ) → HopId → State P → List (Command P) → List (Numbered P)
-picked len hop s [] = []
-picked len hop s (command ∷ commands) =
-    picked_by hop (hop_at s hop) command (step len s command).1 ++ picked len hop (step len s command).0 commands
+-- the datagrams that the accepted Picks of a list of commands put into the flight of a hop, in order
+abbrev pub picked_payloads : {P : Type 0} → (P → ℕ) → HopId → State P → List (Command P) → List (Numbered P)
+picked_payloads len hop s [] = []
+picked_payloads len hop s (command ∷ commands) =
+    picked_by hop (hop_at s hop) command (step len s command).1
+    ++ picked_payloads len hop (step len s command).0 commands
 
 -- payloads numbered 1, 2, 3, ..
 abbrev pub AreNumbered : {P : Type 0} → List (Numbered P) → Type 0
 AreNumbered xs = (k : ℕ) (x : Numbered _) → slice_get xs k ≡ Some x → x.number ≡ k + 1
 
--- a list is the beginning of another
+-- a list is a prefix of another
 abbrev pub IsPrefix : {X : Type 0} → List X → List X → Type 0
 IsPrefix {X} xs ys = (rest : List X) × (ys ≡ xs ++ rest)

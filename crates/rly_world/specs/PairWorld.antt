@@ -1,5 +1,5 @@
--- Two relays, an upper one that gives datagrams to a lower one, and the packets between them. Packets may be lost, come
--- again, or come in another order; sends and devices may fail; either end may crash.
+-- Two relays, an upper one that sends datagrams to a lower one, and the packets between them. Packets may be lost,
+-- duplicated and reordered; sends and devices may fail; either end may crash.
 use Rattle.std.specs.Prelude.{ℕ, nat_le, Bool, true, if◌then◌else◌, Option, Some, None, IsTrue}
 use Rattle.std.specs.Prelude.{List, [], ◌∷◌, ◌++◌, length, replicate, slice_get, slice_set}
 use Rattle.rly_core.specs.declared.ids.HopId.{HopId}
@@ -20,11 +20,11 @@ use Rattle.rly_machine.specs.declared.command.Query.TheVariants as query
 use Rattle.rly_machine.specs.State.{has_hop, has_peer, hop_at, new_state}
 use Rattle.rly_world.specs.PairCores.{is_for_receiver, is_for_sender, receiver_asks, receiver_sends}
 use Rattle.rly_world.specs.PairCores.{sender_asks, sender_event, sender_sends, take_answer}
-use Rattle.rly_world.specs.PairEnd.{End, Outcome, Replied, lasting, new_end, state_of}
-use Rattle.rly_world.specs.PairEnd.{with_asked, with_crash, with_made, with_other, with_told}
-use Rattle.rly_world.specs.PairPayloads.{Numbered, picked, taken}
+use Rattle.rly_world.specs.PairEnd.{End, CallFate, Replied, durable_commands, new_end, state_of}
+use Rattle.rly_world.specs.PairEnd.{with_asked, with_crash, with_made, with_other, end_after_answer}
+use Rattle.rly_world.specs.PairPayloads.{Numbered, picked_payloads, taken_payloads}
 
--- how two relays are set up
+-- the setup of two relays
 pub record PairSetup : Type 0 where
   -- the parameters of their spools
   pub upper_params : Params
@@ -35,11 +35,11 @@ pub record PairSetup : Type 0 where
   -- the upper's hop that leads to the lower, and its window
   pub hop : HopId
   pub window : ℕ
-  -- the lower's peer that is the upper, and how many receiving cores take from it
+  -- the lower's peer that is the upper, and its number of receiving cores
   pub peer : PeerId
   pub receivers : ℕ
 
--- there is such a hop, and such a peer
+-- that hop and that peer exist
 pub record IsPair (setup : PairSetup) : Type 0 where
   pub hop : IsTrue (has_hop (new_state {P = List ℕ} setup.upper_params) setup.hop)
   pub peer : IsTrue (has_peer (new_state {P = List ℕ} setup.lower_params) setup.peer)
@@ -60,7 +60,7 @@ new_sender setup = sender setup.upper setup.lower setup.window
 abbrev pub new_receivers : PairSetup → List Receiver
 new_receivers setup = replicate setup.receivers (receiver setup.lower setup.upper)
 
--- both ends at the start: nothing was accepted, told or sent
+-- both ends at the start: no command was accepted, acknowledged or sent
 abbrev pub pair_start : PairSetup → PairWorld
 pair_start setup = record {
   setup = setup;
@@ -71,38 +71,39 @@ pair_start setup = record {
   packets = [];
 }
 
--- what may happen next. A packet that is lost is one that never arrives.
+-- the events. A lost packet is one that never arrives.
 pub data PairEvent : Type 0 where
-  -- the sending core has its turn, at this moment of the hop's link clock; or it times out
+  -- the sending core runs, at this time of the hop's link clock; or it times out
   Turns : (is_open : Bool) (moment : ℕ) → PairEvent
   Timeout : PairEvent
-  -- a payload that the sending core hasn't asked for yet is fetched for it, as where a window is asked for at once
+  -- a payload is fetched for the sending core before its request, for example when the payloads of a window are
+  -- requested together
   FetchesAhead : (number : ℕ) → PairEvent
-  -- a datagram is picked for the sending core before it asks for one, at this moment of the hop's link clock, as where
-  -- Picks are asked together, and beside a Release
+  -- a datagram is picked for the sending core before its request, at this time of the hop's link clock, for example
+  -- when several Picks are requested together, or with a Release
   PicksAhead : (moment : ℕ) → PairEvent
-  -- the packet at this place arrives at the upper; or at the lower, where it is given to this core, which takes it for
-  -- this hop with this stamp
+  -- the packet with this index arrives at the upper; or at the lower, at this core, which takes it for this hop with
+  -- this stamp
   UpperHears : (packet : ℕ) → PairEvent
   LowerHears : (packet core : ℕ) (hop : HopId) (stamp : ℕ) → PairEvent
-  -- the first call that waits is made
-  UpperMakes : (outcome : Outcome) → PairEvent
-  LowerMakes : (outcome : Outcome) → PairEvent
-  -- the first call that was made is answered; what the core sends on that goes out, or the send fails
+  -- the first waiting call is made
+  UpperMakes : (outcome : CallFate) → PairEvent
+  LowerMakes : (outcome : CallFate) → PairEvent
+  -- the first call that was made gets its reply; the core's message in return goes out, or the send fails
   UpperAnswers : (is_sent : Bool) → PairEvent
   LowerAnswers : (is_sent : Bool) → PairEvent
-  -- a call of another caller is made, and answered at once or not
-  UpperServes : (ask : Ask) (outcome : Outcome) (is_answered : Bool) → PairEvent
-  LowerServes : (ask : Ask) (outcome : Outcome) (is_answered : Bool) → PairEvent
+  -- a call of another client is made, with an immediate reply or none
+  UpperServes : (ask : Ask) (outcome : CallFate) (is_answered : Bool) → PairEvent
+  LowerServes : (ask : Ask) (outcome : CallFate) (is_answered : Bool) → PairEvent
   -- a crash leaves this many accepted commands; the relay opens again, or doesn't
   UpperCrashes : (kept : ℕ) (opens : Bool) → PairEvent
   LowerCrashes : (kept : ℕ) (opens : Bool) → PairEvent
 
--- what is sent, unless the send fails
+-- a message is sent, unless the send fails
 abbrev pub unless_failed : Bool → List (Message (List ℕ)) → List (Message (List ℕ))
 unless_failed is_sent messages = if is_sent then messages else []
 
--- what the sending core did on an event: its call waits, its message is among the packets
+-- the effect of the sending core's action on an event: its call waits, its message is among the packets
 abbrev pub with_sender : PairWorld → ℕ → Bool → SendingResult → PairWorld
 with_sender w moment is_sent result = record w {
   upper = with_asked w.upper 0 (sender_asks w.setup.hop moment result.1);
@@ -110,7 +111,7 @@ with_sender w moment is_sent result = record w {
   packets = w.packets ++ unless_failed is_sent (sender_sends result.1);
 }
 
--- what a receiving core did on an event, likewise
+-- the same for a receiving core
 abbrev pub with_receiver : PairWorld → ℕ → HopId → ℕ → Bool → ReceivingResult → PairWorld
 with_receiver w core hop stamp is_sent result = record w {
   lower = with_asked w.lower core (receiver_asks w.setup.peer hop stamp result.1);
@@ -118,7 +119,7 @@ with_receiver w core hop stamp is_sent result = record w {
   packets = w.packets ++ unless_failed is_sent (receiver_sends result.1);
 }
 
--- a packet arrives, if it was sent and there is such a core
+-- a packet arrives, if it was sent and the core exists
 abbrev pub upper_hears : PairWorld → Option (Message (List ℕ)) → PairWorld
 upper_hears w (Some message) = with_sender w 0 true (sending_step w.sender (out_event.Heard message))
 upper_hears w None = w
@@ -129,11 +130,11 @@ lower_hears w core hop stamp (Some r) (Some message) =
 lower_hears w core hop stamp (Some r) None = w
 lower_hears w core hop stamp None message = w
 
--- the first of the calls that were made is answered, if there is one
+-- the first call that was made gets its reply, if there is one
 abbrev pub upper_answers : PairWorld → Bool → List Replied → PairWorld
 upper_answers w is_sent [] = w
 upper_answers w is_sent (r ∷ rest) =
-    with_sender (record w { upper = with_told (record w.upper { replied = rest }) r.reply r.position }) 0 is_sent
+    with_sender (record w { upper = end_after_answer (record w.upper { replied = rest }) r.reply r.position }) 0 is_sent
     (sending_step w.sender (sender_event r.call.ask r.reply))
 
 abbrev pub receiver_answered : PairWorld → ℕ → Bool → Replied → Option Receiver → PairWorld
@@ -144,12 +145,12 @@ receiver_answered w core is_sent r (Some it) =
 abbrev pub lower_answers : PairWorld → Bool → List Replied → PairWorld
 lower_answers w is_sent [] = w
 lower_answers w is_sent (r ∷ rest) =
-    receiver_answered (record w { lower = with_told (record w.lower { replied = rest }) r.reply r.position })
+    receiver_answered (record w { lower = end_after_answer (record w.lower { replied = rest }) r.reply r.position })
     r.call.core is_sent r (slice_get w.receivers r.call.core)
 
--- what an event makes of two relays. One that has no place changes nothing: where nothing waits, where a packet was
--- never sent, where a device that failed would work, where memory would be refused that isn't wanted, where a crash
--- would take what was told, or where another caller would make a core's call.
+-- the effect of an event on two relays. An impossible event changes nothing: if no call waits, if the packet was never
+-- sent, if a failed device would work, if an allocation would fail for a request that needs none, if a crash would
+-- remove an acknowledged command, or if another client would make a core's call.
 abbrev pub pair_step : PairWorld → PairEvent → PairWorld
 pair_step w (Turns is_open moment) = with_sender w moment true (sending_step w.sender (out_event.Turn is_open))
 pair_step w Timeout = with_sender w 0 true (sending_step w.sender out_event.Timeout)
@@ -180,17 +181,17 @@ abbrev pub pair_after : PairWorld → List PairEvent → PairWorld
 pair_after w [] = w
 pair_after w (event ∷ events) = pair_after (pair_step w event) events
 
--- what the upper has picked for the lower, which no crash takes away
+-- the datagrams that the upper has durably picked for the lower
 abbrev pub lastingly_picked : PairWorld → List (Numbered (List ℕ))
-lastingly_picked w = picked length w.setup.hop (new_state w.upper.params) (lasting w.upper)
+lastingly_picked w = picked_payloads length w.setup.hop (new_state w.upper.params) (durable_commands w.upper)
 
--- what the lower has taken from the upper: all of it; and what no crash takes away
+-- the datagrams that the lower has taken from the upper: all of them; and the durable ones
 abbrev pub now_taken : PairWorld → List (Numbered (List ℕ))
-now_taken w = taken length w.setup.peer (new_state w.lower.params) w.lower.accepted
+now_taken w = taken_payloads length w.setup.peer (new_state w.lower.params) w.lower.accepted
 
 abbrev pub lastingly_taken : PairWorld → List (Numbered (List ℕ))
-lastingly_taken w = taken length w.setup.peer (new_state w.lower.params) (lasting w.lower)
+lastingly_taken w = taken_payloads length w.setup.peer (new_state w.lower.params) (durable_commands w.lower)
 
--- how many datagrams the upper has released to the lower
+-- the number of datagrams that the upper has released to the lower
 abbrev pub released_count : PairWorld → ℕ
 released_count w = (hop_at (state_of w.upper) w.setup.hop).released

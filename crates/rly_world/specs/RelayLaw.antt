@@ -1,11 +1,11 @@
--- What is true of a relay after every list of events.
+-- The properties of a relay after every list of events.
 use Rattle.std.specs.Prelude.{◌≡◌, ◌==◌, ◌+◌, ◌≤◌, ℕ, max, if◌then◌else◌, IsTrue, List, [], ◌∷◌, length, take}
 use Rattle.rly_core.specs.declared.ids.HopId.{HopId}
 use Rattle.rly_core.specs.declared.params.Params.{Params}
 use Rattle.rly_machine.specs.declared.command.Command.TheVariants.{Pick, Release, Take}
 use Rattle.rly_machine.specs.Custody.{KeepsCustody, account_along}
 use Rattle.rly_machine.specs.State.{has_hop, hop_at, new_state}
-use Rattle.rly_standing.specs.Standing.{Commands, Stands}
+use Rattle.rly_journal.specs.Recovery.{Commands, Stands}
 use Rattle.rly_world.specs.RelayWorld.{World, state_from}
 
 -- the numbers up to which the Releases of a hop went, in order
@@ -21,9 +21,9 @@ abbrev pub greatest_of : ℕ → List ℕ → ℕ
 greatest_of n [] = n
 greatest_of n (m ∷ numbers) = greatest_of (max n m) numbers
 
--- the books of a hop after accepted commands of a new spool: each id that was taken is in the queue, in flight, among
--- the dropped or among the expired ids of one Pick, or released; what is released went into flight under a number up
--- to the greatest that a Release covered; and the counts add up
+-- the account of a hop after accepted commands of a new spool: each id that was taken is in the queue, in flight, among
+-- the dropped or among the expired ids of one Pick, or released; a released one went into flight under a number that a
+-- Release covered; and the counts add up
 pub record KeepsBooks (params : Params) (commands : Commands) (hop : HopId) : Type 0 where
   pub custody : KeepsCustody (hop_at (state_from params commands) hop)
       (account_along length hop (new_state params) commands)
@@ -33,8 +33,8 @@ pub record KeepsBooks (params : Params) (commands : Commands) (hop : HopId) : Ty
       + (hop_at (state_from params commands) hop).dropped + (hop_at (state_from params commands) hop).expired
       + (hop_at (state_from params commands) hop).released
 
--- an image stands for the state after the first n accepted commands, which count n; no answer that was put has a later
--- position; and the books of each hop are kept
+-- an image recovers to the state after the first n accepted commands; no reply that was given has a later position; and
+-- the account of each hop holds
 pub record HoldsTold (w : World) (image : List ℕ) : Type 0 where
   pub n : ℕ
   pub told : w.told ≤ n

@@ -1,19 +1,19 @@
-//! Whole relays, as definitions: what holds of one after every list of events, with any call of
-//! its device failing and the relay stopped at any moment, and of two that hand datagrams on over
-//! a bad link.
+//! The main theorems, as laws over lists of events: one relay whose device and power may fail at
+//! any moment, and two relays over a lossy link.
 //!
-//! `specs/RelayWorld.antt` has the world of one relay, `specs/RelaySteps.antt` what may happen
-//! next, and `law_relay` what is true after every list of events. `specs/PairWorld.antt` has two
-//! relays with all packets between them, and what each event makes of them; `law_two` is their
-//! law. The laws stand on functions without a body, which need no memory, call nothing and take no
-//! handle. The contracts of the journal, of the machine and of the two protocol cores cite the
-//! same definitions. Caller: `rly_keyed`; the contracts of `rly_relay` and `rly_pair` cite its
-//! worlds.
+//! `law_relay`: a crash leaves a prefix of the accepted commands that holds all answered ones
+//! (`specs/RelayWorld.antt`). `law_two`: the downstream relay took a prefix of the upstream one's
+//! picks, and no more is released than was taken (`specs/PairWorld.antt`). `law_keyed`: the same
+//! for links with keys, over packets from anyone (`specs/KeyedWorld.antt`). `rly_world_relay` and
+//! `rly_world_pair` run real journals whose steps are these events; the functions here have empty
+//! bodies.
 #![tactic(auto)]
 
+mod keyed_law;
 mod pair_law;
 mod relay_law;
 
+pub use crate::keyed_law::law_keyed;
 pub use crate::pair_law::{
     law_exchange, law_fetch, law_flight, law_one_at_a_time, law_taken, law_two,
 };

@@ -1,35 +1,35 @@
 use crate::message::Message;
 use rly_core::Refusal;
 
-/// What a Take was answered.
+/// The answer to a Take.
 #[derive(Clone, Copy, PartialEq, Eq)]
 pub enum TakeAnswer {
-    /// The datagram is kept.
+    /// The datagram is stored.
     Taken,
-    /// It was kept before; the number is the last one that is kept.
+    /// It was stored before; the number is the last one that is stored.
     Already(u64),
-    /// It isn't kept.
+    /// It isn't stored.
     Refused(Refusal),
     /// An answer that belongs to no Take.
     Other,
 }
 
-/// What may come to a receiving core.
+/// The events of a receiving core.
 #[derive(Clone, Copy, PartialEq, Eq)]
 pub enum InEvent<P> {
-    /// A message arrived.
+    /// A message was received.
     Heard(Message<P>),
-    /// The Take that the core named was answered.
+    /// The Take that the core requested was answered.
     Answered(TakeAnswer),
-    /// No answer to it will come; the datagram may or may not be kept.
+    /// No answer will come; the datagram may or may not be stored.
     Lost,
 }
 
-/// What a receiving core may name.
+/// The actions of a receiving core.
 #[derive(Clone, Copy, PartialEq, Eq)]
 pub enum InAction<P> {
-    /// Take the datagram that arrived under this number with this limit, and give the core the answer.
+    /// Take the datagram received under this number with this limit, and pass the answer to the core.
     Take { number: u64, limit: u64, payload: P },
-    /// Send the message. Where that fails the core is told nothing: the neighbour sends again.
+    /// Send the message. A failure isn't reported to the core: the neighbour sends again.
     Send(Message<P>),
 }

@@ -5,7 +5,7 @@ use Rattle.rly_daemon.proofs.program.obey.Goals as goal
 pub returns-in-Sim-clause-done : goal.returns-in-Sim-clause-done
 returns-in-Sim-clause-done g c = rw c.in-Sim.is (then_both c.run_sim.result c.run_sim.ensures.limits c.run_sim.ensures.written (λ limits written. (limits, written, refl)))
 
--- the reader was left as it was
+-- the reader was left unchanged
 pub returns-in-Format-clause-done : goal.returns-in-Format-clause-done
 returns-in-Format-clause-done g c = rw c.in-Format.is (then_ok c.run_format.result c.run_format.ensures.formatted (λ formatted. (refl, formatted, refl)))
 

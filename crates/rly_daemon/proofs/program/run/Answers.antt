@@ -4,4 +4,4 @@ use Rattle.rly_daemon.proofs.program.run.Goals as goal
 
 -- nothing was read
 pub returns-in-Err-clause-done : goal.returns-in-Err-clause-done
-returns-in-Err-clause-done g c = λ well. inl (asks_help (map g.S.AsStr.text c.args.words.now) c.in-Err.fault c.in-Err.ensures.told (c.tell_unsettled.ensures.asked well), refl)
+returns-in-Err-clause-done g c = λ well. inl (asks_help (map g.S.AsStr.text c.args.words.now) c.in-Err.fault c.in-Err.ensures.told (c.report_settings_fault.ensures.asked well), refl)

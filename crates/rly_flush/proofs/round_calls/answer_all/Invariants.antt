@@ -2,8 +2,8 @@ use Rattle.std.proofs.Common.{◌≡◌, ◌+◌, List, drop, length, vec_capaci
 use Rattle.std.specs.Vec.Iter.{drain_items}
 use Rattle.rly_machine.specs.declared.call.Call.{Call}
 use Rattle.rly_line.specs.EndViews.{names_of}
-use Rattle.rly_line.specs.Responding.{IsResponding}
-use Rattle.rly_flush.specs.HelpersFlushing.{answers_said, calls_said}
+use Rattle.rly_line.specs.ResponderView.{IsOneResponder}
+use Rattle.rly_flush.specs.HelpersFlusher.{answers_said, calls_said}
 use Rattle.rly_flush.proofs.Answering.{IsUnderWay, once_told}
 use Rattle.rly_flush.proofs.round_calls.answer_all.Given as goal
 
@@ -21,5 +21,5 @@ invariant-loop-wanted g l =
       start : l.line.start ≡ l.fn.line.start;
       over : l.line.over ≡ l.fn.line.over;
       names : names_of l.line.lines ≡ names_of l.fn.line.lines;
-      holds : IsResponding l.line;
+      holds : IsOneResponder l.line;
     })

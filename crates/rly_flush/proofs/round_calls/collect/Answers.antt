@@ -3,7 +3,7 @@ use Rattle.std.specs.Global.{Vec}
 use Rattle.rly_machine.specs.declared.call.Answer.{Answer}
 use Rattle.rly_line.specs.Batches.{calls_in_batch}
 use Rattle.rly_line.proofs.Submitting.{length_batch}
-use Rattle.rly_flush.specs.HelpersFlushing.{AreCollected, calls_said}
+use Rattle.rly_flush.specs.HelpersFlusher.{AreCollected, calls_said}
 use Rattle.rly_flush.proofs.Collecting.{collected_kept, collected_more}
 use Rattle.rly_flush.proofs.round_calls.collect.Goals as goal
 

@@ -1,7 +1,7 @@
 use Rattle.std.proofs.Common.{◌≡◌, ◌≤◌, [], None, length}
 use Rattle.rly_core.specs.Bounds.{IsIn}
-use Rattle.rly_line.specs.Responding.{IsResponding}
-use Rattle.rly_flush.specs.HelpersFlushing.{AreCollected, HasRoom, answers_said, calls_said}
+use Rattle.rly_line.specs.ResponderView.{IsOneResponder}
+use Rattle.rly_flush.specs.HelpersFlusher.{AreCollected, HasRoundRoom, answers_said, calls_said}
 use Rattle.rly_flush.proofs.round_calls.collect.Given as goal
 
 -- the batches so far are those of the round, and none is kept yet
@@ -14,6 +14,6 @@ invariant-loop-count g l = record {
   count : IsIn 1 64 (length l.lists.calls.items);
   batches : length l.lists.said.items ≤ l._count;
   answers : l.lists.answers.items ≡ [];
-  room : HasRoom l.lists;
-  holds : IsResponding l.line;
+  room : HasRoundRoom l.lists;
+  holds : IsOneResponder l.line;
 }

@@ -12,7 +12,7 @@ length_made g c =
     let fits : c.args.at + 6 ≤ c.args.end = omega (arith, c.in_ok-length.ensures.within) in
     makes_joined g.D.Disk.state _ _ true c.in-Ok.ensures.trace (rw (le-leb (c.args.at + 6) c.args.end fits) at c.in_ok-length.ensures.trace)
 
--- so many bytes behind it are the body of a group
+-- the bytes after it are the body of a group
 body_held : (g : _) (c : In_ok-length g) → (g.D.Disk.state c.args.disk.now).honest → {body : List ℕ}
     → body ≡ take c.in_ok-length.length (drop (c.args.at + 5) (g.D.Disk.state c.args.disk.now).seen)
     → HoldsGroup (g.D.Disk.state c.args.disk.now).seen c.args.at c.args.end body

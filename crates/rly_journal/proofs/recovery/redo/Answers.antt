@@ -3,7 +3,7 @@ use Rattle.rly_journal.proofs.Redone.{IsStepped, redoing_brought, redoing_next, 
 use Rattle.rly_journal.proofs.recovery.redo.Goals.{After-apply}
 use Rattle.rly_journal.proofs.recovery.redo.Goals as goal
 
--- what became of the next command
+-- the outcome of the next command
 one : (c : After-apply) → IsStepped c.loop-command.index c.apply.new.self (placed_at c.loop-command.place c.in-Some.command) c.apply.result
     (c.loop-command.place + c.record_len.result)
 one c = stepped c.in-Ok.ensures.state c.in-Ok.ensures.at c.placed_at-placed.ensures c.apply.ensures.state c.apply.ensures.reply c.apply.ensures.at

@@ -33,7 +33,7 @@ returns-in-Err-Device-clause-read g c start so_far =
     let made = rw c.in-Err-Device.field-0-is at c.in-Err-Device.ensures.trace in
     given_up g.met.D.Disk.consistent so_far (λ honest. tt) (group_broken _ c.segment_end-end.result ℕ Device made)
 
--- ---- the group was read, and isn't made again
+-- ---- the group was read, and isn't replayed
 
 whole : (g : _) (c : In-Ok-Some g) → (n : ℕ) × MakesFront g.D.Disk.state (group_scan c.args.found.now.tail.gate n) true c.args.disk.now c.read_group.new.disk
 whole g c = (_, front_all g.D.Disk.state (rw c.in-Ok-Some.field-0-is at c.in-Ok-Some.ensures.trace).1)
@@ -60,7 +60,7 @@ returns-then-not-is_redone-clause-read g c start so_far =
     unaccepted g.met.D.Disk.consistent so_far c.law_index.ensures.holds _ by.read
     (λ commands have spelled accepted. refused (rw (c.in-Ok.ensures.only commands have (c.deref.ensures.value ∙ spelled)) accepted)) by.trace.1
 
--- ---- the commands were made again
+-- ---- the commands were replayed
 
 pub returns-clause-read : goal.returns-clause-read
 returns-clause-read g c start so_far =

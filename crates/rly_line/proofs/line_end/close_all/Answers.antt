@@ -1,6 +1,6 @@
 use Rattle.std.proofs.Common.{◌∙◌}
 use Rattle.rly_line.specs.EndViews.{with_gone}
-use Rattle.rly_line.proofs.Telling.{map_set}
+use Rattle.rly_line.proofs.ReplyHistories.{map_set}
 use Rattle.rly_line.proofs.line_end.close_all.Goals as goal
 
 pub loop-place-preserved : goal.loop-place-preserved

@@ -2,7 +2,7 @@ use Rattle.std.proofs.Common.{◌≡◌, ◌+◌, ◌≤◌, ◌++◌, length, v
 use Rattle.std.specs.Vec.Iter.{drain_items}
 use Rattle.rly_line.proofs.seat.move_all.Given as goal
 
--- what was moved and what is left to be moved is what was there
+-- the elements that were moved and those that remain are all elements
 abbrev pub invariant-loop-item : goal.invariant-loop-item
 invariant-loop-item g l =
     (goal.iterator-loop-item g).can_next l.item-iterator

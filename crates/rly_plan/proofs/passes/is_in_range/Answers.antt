@@ -1,6 +1,6 @@
 use Rattle.std.proofs.Common.{◌∙◌, ap, is_none}
-use Rattle.rly_plan_draft.proofs.NoPlace.{told}
-use Rattle.rly_plan.proofs.PlaceTests.{none_out_of_range}
+use Rattle.rly_plan_syntax.proofs.NoPath.{told}
+use Rattle.rly_plan.proofs.PathTests.{none_out_of_range}
 use Rattle.rly_plan.proofs.passes.is_in_range.Goals as goal
 
 pub returns : goal.returns

@@ -1,6 +1,6 @@
 use Rattle.std.proofs.Common.{◌∙◌, ap, is_none}
-use Rattle.rly_plan_draft.proofs.NoPlace.{told}
-use Rattle.rly_plan.proofs.PlaceTests.{none_unsorted}
+use Rattle.rly_plan_syntax.proofs.NoPath.{told}
+use Rattle.rly_plan.proofs.PathTests.{none_unsorted}
 use Rattle.rly_plan.proofs.passes.is_sorted.Goals as goal
 
 pub returns : goal.returns

@@ -4,7 +4,7 @@ use Rattle.rly_plan.specs.Passes.{repeats}
 use Rattle.rly_plan.proofs.PassLemmas.{is_marked}
 use Rattle.rly_plan.proofs.passes.repeats.Given as goal
 
--- a number is there twice where one from here on is marked, or repeats from here on
+-- a number occurs twice iff one from here on is marked, or repeats from here on
 abbrev pub invariant-loop-number : goal.invariant-loop-number
 invariant-loop-number l =
     (vec_len l.seen ≡ 65536)

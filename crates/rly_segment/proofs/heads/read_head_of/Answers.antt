@@ -22,14 +22,14 @@ returns-then-geometry-end-clause-read g c honest v other s has holds =
     let its = start_is g.C.Form.form (start_read g (goal.at.returns-then-geometry-end-clause-read g c).In-Ok honest) v holds in
     omega (arith, holds.head.room, its.2)
 
--- no head holds a body that is no checkpoint
+-- no head has a body that is no checkpoint
 pub returns-in-Err-Malformed-clause-read : goal.returns-in-Err-Malformed-clause-read
 returns-in-Err-Malformed-clause-read g c honest v other s has holds =
     let at = goal.at.returns-in-Err-Malformed-clause-read g c in
     read_as g.C.Form.form (start_read g at.In-Ok honest) (body_read g at.After-deref honest) g.C.Form.has_form (λ s. ⊥)
     (λ s sound has plain params same. let refused = c.in-Err-Malformed.ensures.only s sound has plain params same in absurd cc) v has holds
 
--- no head of the one state that the body is has another generation
+-- no head of the body's one state has another generation
 pub returns-then-not-is_generation-clause-read : goal.returns-then-not-is_generation-clause-read
 returns-then-not-is_generation-clause-read g c honest v other s has holds =
     let at = goal.at.returns-then-not-is_generation-clause-read g c in

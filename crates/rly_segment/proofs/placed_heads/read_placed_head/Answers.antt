@@ -5,7 +5,7 @@ use Rattle.rly_segment.proofs.placed_heads.read_placed_head.Goals as goal
 pub returns-in-Err-clause-read : goal.returns-in-Err-clause-read
 returns-in-Err-clause-read g c honest = fault_placed _ c.args.segment c.in-Err.fault c.requires.geometry (c.in-Err.ensures.read honest)
 
--- a head that was read holds no other state
+-- a head that was read has no other state
 pub returns-then-not-is_placed-clause-read : goal.returns-then-not-is_placed-clause-read
 returns-then-not-is_placed-clause-read g c honest v m s other =
     let once = stored_once c.law_one_spelling.ensures _ c.args.geometry.now c.args.segment v _ m _ s _ c.requires.geometry.length

@@ -1,6 +1,6 @@
 use Rattle.std.proofs.Common.{◌≡◌}
 use Rattle.rly_threads.proofs.relay.forget_missing.Given as goal
 
--- the flusher stays what contracts see
+-- the flusher's model is unchanged
 abbrev pub invariant-loop-thread : goal.invariant-loop-thread
 invariant-loop-thread g l = l.flusher ≡ l.fn.flusher

@@ -1,10 +1,10 @@
 use Rattle.std.proofs.Common.{◌∙◌, IfSome, ap, arith, length, rules, subst, sym}
 use Rattle.std.specs.List.{AllByRecursion}
 use Rattle.rly_line.specs.EndViews.{ClosedView, names_of}
-use Rattle.rly_line.specs.Responding.{IsSeatOf}
+use Rattle.rly_line.specs.ResponderView.{IsSeatOf}
 use Rattle.rly_threads.specs.HelpersCut.{GivesBack, IsJoined}
 use Rattle.rly_threads.proofs.Threads.{each_all, each_first, each_next}
-use Rattle.rly_workers.proofs.Receivers.{none_left}
+use Rattle.rly_threads_workers.proofs.Receivers.{none_left}
 use Rattle.rly_threads.proofs.relay.join_all.Goals as goal
 
 pub loop-thread-init : goal.loop-thread-init
@@ -24,7 +24,7 @@ loop-thread-preserved g c =
     let kept = c.loop-thread.invariant in
     let shorter = ap length steps.0 in
     let longer = ap length c.push_reserved.ensures.items in
-    let joined = subst (λ (lines : ClosedView). GivesBack (IsJoined g.L.Link.heard g.L.Link.sent g.T.Turn.told g.T.Turn.endless c.args.said.now.value lines) c.in-Some.thread c.join.result)
+    let joined = subst (λ (lines : ClosedView). GivesBack (IsJoined g.L.Link.heard g.L.Link.sent g.T.Turn.told g.T.Turn.endless g.W.Waker.woken c.args.said.now.value lines) c.in-Some.thread c.join.result)
     kept.4 c.join.ensures.joined in (
       omega (arith, steps.1, shorter, kept.0),
       grind (arith, rules, shorter, longer, kept.1, c.push_reserved.ensures.capacity),

@@ -1,6 +1,8 @@
-use Rattle.std.proofs.Common.{◌≡◌, ◌∙◌, List, Option, [], arith, length, refl, rules, subst, sym, vec_capacity}
+use Rattle.std.proofs.Common.{◌≡◌, ◌∙◌, ◌⊎◌, List, Option, [], ap, arith, length, refl, rules, subst, sym, true, vec_capacity}
 use Rattle.std.proofs.lemmas.Slice.Zip.{AllZip-long, length-zip}
-use Rattle.rly_flush.specs.Flushing.{FlusherState, IsServed}
+use Rattle.rly_disk.specs.DiskModel.{HasFailed, Later}
+use Rattle.rly_flush.specs.FlusherHistory.{FlusherState, IsServed, new_flusher}
+use Rattle.rly_journal.specs.Journal.{JournalState}
 use Rattle.rly_line.specs.EndViews.{names_of}
 use Rattle.rly_line.specs.Replies.{ReplyId}
 use Rattle.rly_threads.specs.HelpersCut.{AreSeatsOf}
@@ -16,7 +18,7 @@ serve_to_end-requires-clause-empty g c =
     let both = length-zip c.args.posts.items c.args.seats.items in
     (none, omega (arith, room, long, both))
 
--- its seats are of the line at which its flusher begins
+-- its seats are of the queue at which its flusher begins
 pub serve_to_end-requires-clause-seats : goal.serve_to_end-requires-clause-seats
 serve_to_end-requires-clause-seats g c =
     let names : List (Option ReplyId) = names_of c.args.line_end.lines in
@@ -27,19 +29,25 @@ pub serve_to_end-requires-clause-word : goal.serve_to_end-requires-clause-word
 serve_to_end-requires-clause-word g c = all_told _ _ _ _ refl _ _ c.start_all-threads.ensures
 
 -- its flusher began with the journal, at the end of the line
-pub returns-clause-done : goal.returns-clause-done
-returns-clause-done g c =
+pub returns-clause-end : goal.returns-clause-end
+returns-clause-end g c =
     let end = c.serve_to_end.ensures in
+    let served : IsServed g.D.Disk.state (new_flusher c.args.journal c.args.line_end) c.serve_to_end.result.finished.last.value =
+    subst (λ f. IsServed g.D.Disk.state f c.serve_to_end.result.finished.last.value) c.in-Ok-new.ensures.begins end.served in
     record {
       broken = end.broken;
-      served = subst (λ f. IsServed g.D.Disk.state f c.serve_to_end.result.finished.last.value) c.in-Ok-new.ensures.begins end.served;
+      broke = λ yes.
+          subst (λ (j : JournalState g.row.D.Denot). (c.args.journal.broken ≡ true) ⊎ HasFailed (g.D.Disk.state c.args.journal.disk) (g.D.Disk.state j.disk)) end.left
+          (served.rounds.broke (ap (λ (j : JournalState g.row.D.Denot). j.broken) end.left ∙ sym end.broken ∙ yes));
+      served = served;
       left = end.left;
       closed = end.closed;
       worked =
           rw (sym c.params-params.ensures)
-          (kept_through g.L.Link.heard g.L.Link.sent g.T.Turn.told g.T.Turn.endless _ _ _ _ _ _ _ _ c.start_all-threads.ensures end.joined);
+          (kept_through g.L.Link.heard g.L.Link.sent g.T.Turn.told g.T.Turn.endless g.W.Waker.woken _ _ _ _ _ _ _ _ c.start_all-threads.ensures end.joined);
       answered = end.answered;
       told = end.told;
-      cut = all_cut g.L.Link.heard g.L.Link.sent g.T.Turn.told g.T.Turn.endless _ _ _ _ end.joined;
+      cut = all_cut g.L.Link.heard g.L.Link.sent g.T.Turn.told g.T.Turn.endless g.W.Waker.woken _ _ _ _ end.joined;
       complete = end.complete;
+      later = subst (λ (j : JournalState g.row.D.Denot). Later (g.D.Disk.state c.args.journal.disk) (g.D.Disk.state j.disk)) end.left served.rounds.later;
     }

@@ -1,7 +1,7 @@
 use Rattle.std.proofs.Common.{◌≡◌, ◌∙◌, ◌||◌, Bool, IfSome, List, Option, ap, not, subst, sym}
 use Rattle.std.specs.List.{AllByRecursion, AllZip, list_all}
 use Rattle.std.specs.Option.{is_some}
-use Rattle.rly_flush.specs.Flushing.{FlusherState, IsServed}
+use Rattle.rly_flush.specs.FlusherHistory.{FlusherState, IsServed}
 use Rattle.rly_line.specs.EndViews.{ClosedView, names_of}
 use Rattle.rly_line.specs.Replies.{ReplyId}
 use Rattle.rly_line.specs.Submission.{LineId}
@@ -15,7 +15,7 @@ join_all-ended-requires-clause-word g c =
     subst (λ lock. AllByRecursion (λ thread. IfSome thread (λ t. t.promise.word.value.id ≡ lock)) c.args.threads.items)
     (sym c.serve_and_tell-finished.ensures.of) c.requires.word
 
--- the seats are of the lines that the flusher closed
+-- the seats are of the queues that the flusher closed
 pub join_all-ended-requires-clause-seats : goal.join_all-ended-requires-clause-seats
 join_all-ended-requires-clause-seats g c =
     let served = subst (λ (f : FlusherState g.row.D.Denot). IsServed g.D.Disk.state f c.serve_and_tell-finished.result.0.last.value) c.forget_missing.ensures c.serve_and_tell-finished.ensures.ends in
@@ -26,12 +26,12 @@ join_all-ended-requires-clause-seats g c =
 
 pub returns-clause-joined : goal.returns-clause-joined
 returns-clause-joined g c =
-    subst (λ (y : Bool × ClosedView). AllZip (GivesBack (IsJoined g.L.Link.heard g.L.Link.sent g.T.Turn.told g.T.Turn.endless y.0 y.1)) c.args.threads.items c.join_all-ended.result.items)
+    subst (λ (y : Bool × ClosedView). AllZip (GivesBack (IsJoined g.L.Link.heard g.L.Link.sent g.T.Turn.told g.T.Turn.endless g.W.Waker.woken y.0 y.1)) c.args.threads.items c.join_all-ended.result.items)
     (λ i. (sym c.value.ensures i, sym c.join_all-ended.ensures.same i)) c.join_all-ended.ensures.joined
 
 pub returns-clause-answered : goal.returns-clause-answered
 returns-clause-answered g c =
-    all_answered g.L.Link.heard g.L.Link.sent g.T.Turn.told g.T.Turn.endless _ _ c.serve_and_tell-finished.result.0.last.value.line c.serve_and_tell-finished.ensures.closed
+    all_answered g.L.Link.heard g.L.Link.sent g.T.Turn.told g.T.Turn.endless g.W.Waker.woken _ _ c.serve_and_tell-finished.result.0.last.value.line c.serve_and_tell-finished.ensures.closed
     c.serve_and_tell-finished.ensures.ends.rounds.history.told _ _ c.join_all-ended.ensures.joined
 
 -- as many have ended as had a thread

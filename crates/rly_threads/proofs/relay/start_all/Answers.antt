@@ -4,7 +4,7 @@ use Rattle.std.specs.List.{AllZip, zip}
 use Rattle.std.specs.Vec.Iter.{into_iter_items, into_iter_len}
 use Rattle.rly_threads.specs.HelpersCut.{IsFor}
 use Rattle.rly_threads.proofs.Threads.{each_all, each_first, each_next}
-use Rattle.rly_workers.proofs.Receivers.{none_left}
+use Rattle.rly_threads_workers.proofs.Receivers.{none_left}
 use Rattle.rly_threads.proofs.relay.start_all.Goals as goal
 
 pub loop-seat-init : goal.loop-seat-init

@@ -6,8 +6,8 @@ use Rattle.rly_threads.specs.HelpersCut.{IsFor}
 use Rattle.rly_threads.proofs.Threads.{Each}
 use Rattle.rly_threads.proofs.relay.start_all.Given as goal
 
--- as many seats as posts are left, there is room for a thread for each, and each post so far has one at its seat, unless it was
--- refused
+-- as many seats as posts remain, there is room for a thread for each, and each post so far has one at its seat,
+-- unless it was refused
 abbrev pub invariant-loop-seat : goal.invariant-loop-seat
 invariant-loop-seat g l =
     (into_iter_len (zip_first l.seat-iterator) ≡ length (into_iter_items (zip_second l.seat-iterator)))

@@ -1,5 +1,5 @@
 use Rattle.rly_world.specs.PairWorld.{pair_start}
-use Rattle.rly_world.proofs.PairWaiting.{all_alone, in_time, start_alone}
+use Rattle.rly_world.proofs.PairWaits.{all_alone, in_time, start_alone}
 use Rattle.rly_world.proofs.pair_law.law_one_at_a_time.Goals as goal
 
 pub returns-clause-case : goal.returns-clause-case

@@ -1,7 +1,7 @@
 use Rattle.std.proofs.Common.{arith}
 use Rattle.rly_machine.specs.Fold.{fold}
 use Rattle.rly_machine.specs.State.{new_state}
-use Rattle.rly_world.specs.PairPayloads.{taken}
+use Rattle.rly_world.specs.PairPayloads.{taken_payloads}
 use Rattle.rly_world.proofs.PairRuns.{taken_append, takes_from_new}
 use Rattle.rly_world.proofs.pair_law.law_taken.Goals as goal
 
@@ -15,6 +15,6 @@ returns-clause-last g c params commands peer there =
 
 pub returns-clause-prefix : goal.returns-clause-prefix
 returns-clause-prefix g c params commands more peer = (
-  taken g.C.Content.length_of peer (fold g.C.Content.length_of (new_state params) commands) more,
+  taken_payloads g.C.Content.length_of peer (fold g.C.Content.length_of (new_state params) commands) more,
   taken_append g.C.Content.length_of peer (new_state params) commands more,
 )

@@ -1,5 +1,5 @@
 use Rattle.std.proofs.Common.{subst}
-use Rattle.rly_flush.specs.Flushing.{IsOneHistory}
+use Rattle.rly_flush.specs.FlusherHistory.{IsOneHistory}
 use Rattle.rly_flush.proofs.Crashing.{one_history}
 use Rattle.rly_flush.proofs.flusher.Flusher.law_history.Goals as goal
 

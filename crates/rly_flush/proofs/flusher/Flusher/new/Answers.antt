@@ -1,6 +1,6 @@
 use Rattle.std.proofs.Common.{None, subst, sym}
-use Rattle.rly_flush.specs.HelpersFlushing.{IsFlushing}
-use Rattle.rly_flush.specs.Flushing.{IsOneHistory}
+use Rattle.rly_flush.specs.HelpersFlusher.{IsFlushing}
+use Rattle.rly_flush.specs.FlusherHistory.{IsOneHistory}
 use Rattle.rly_flush.proofs.Crashing.{at_first, one_history}
 use Rattle.rly_flush.proofs.flusher.Flusher.new.Goals as goal
 

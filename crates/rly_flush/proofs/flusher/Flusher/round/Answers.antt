@@ -1,6 +1,6 @@
 use Rattle.std.proofs.Common.{◌≡◌, false, arith, refl, subst, sym}
-use Rattle.rly_flush.specs.Flushing.{FlusherState, GrewInRound, IsCrashSafe, IsOneRound}
-use Rattle.rly_flush.specs.HelpersFlushing.{IsReady}
+use Rattle.rly_flush.specs.FlusherHistory.{FlusherState, GrewInRound, IsCrashSafe, IsOneRound}
+use Rattle.rly_flush.specs.HelpersFlusher.{IsRoundReady}
 use Rattle.rly_flush.proofs.Crashing.{may_tell, one_round, stayed, went_on}
 use Rattle.rly_flush.proofs.flusher.Flusher.round.Goals as goal
 
@@ -13,7 +13,7 @@ pub invariant_of-self : goal.invariant_of-self
 invariant_of-self g c =
     let same = c.if-not-collect.ensures.stayed refl in (
       (stayed g.D.Disk.state g.met.D.Disk.consistent c.self.invariant.0 same.0 same.1 same.2).flushing,
-      subst IsReady (sym same.3) c.self.invariant.1,
+      subst IsRoundReady (sym same.3) c.self.invariant.1,
     )
 
 pub answer_all-requires-clause-legal : goal.answer_all-requires-clause-legal

@@ -1,7 +1,7 @@
 use Rattle.std.proofs.Common.{Bool, Option, inl, inr, ◌∙◌, ap, refl, subst, sym}
 use Rattle.std.proofs.lemmas.Bool.{false≢true}
 use Rattle.rly_line.specs.Batches.{BatchView}
-use Rattle.rly_flush.specs.Flushing.{FlusherState, IsContinued, IsServed}
+use Rattle.rly_flush.specs.FlusherHistory.{FlusherState, IsContinued, IsServed}
 use Rattle.rly_flush.proofs.Serving.{continued_first, continued_next, first_may, may_follow}
 use Rattle.rly_flush.proofs.flusher.Flusher.serve.Goals.{in-None, in-Some+then-not-round, then-not-round-via-then-not-round, then-not-round-via-else-not-round+then-has_ended}
 use Rattle.rly_flush.proofs.flusher.Flusher.serve.Goals as goal

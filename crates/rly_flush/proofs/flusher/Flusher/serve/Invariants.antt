@@ -1,4 +1,4 @@
-use Rattle.rly_flush.specs.Flushing.{IsContinued, MayFollow}
+use Rattle.rly_flush.specs.FlusherHistory.{IsContinued, MayFollow}
 use Rattle.rly_flush.proofs.flusher.Flusher.serve.Given as goal
 
 -- rounds were made, and another may follow

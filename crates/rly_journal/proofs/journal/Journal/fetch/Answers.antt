@@ -20,7 +20,7 @@ returns-in-Err-clause-trace g c =
     let told = c.law_fetched.ensures.refused c.self.inside.index.spool.state _ _ _ _ c.self.invariant.0.alike c.in-Err.ensures.err in
     rw (← c.self.view_is) ([], nothing_tried g.D.Disk.state c.self.inside.disk, (λ _. refl), λ _. rw told refl)
 
--- the item was found, and its place
+-- the item was found, and its device address
 flight : (g : _) (c : After-place_of-place g) → let j = c.self.inside in IsInFlight j.index.geometry j.index.spool.state
     (shown_state (g.D.Disk.state j.first_disk.value).seen j.first_index.value.spool.state (map (λ e. e.0.value) j.accepted.items))
     c.args.hop c.args.number c.in-Ok.item.now c.place_of-place.result

@@ -2,7 +2,7 @@ use Rattle.std.proofs.Common.{◌≡◌, ◌++◌, take, vec_capacity}
 use Rattle.std.specs.Vec.Iter.{drain_items}
 use Rattle.rly_line.proofs.batch.Answers.fill.Given as goal
 
--- the answers that were moved and those that are left to be moved are as many as are wanted
+-- the answers that were moved and those that remain are as many as expected
 abbrev pub invariant-loop-answer : goal.invariant-loop-answer
 invariant-loop-answer l =
     (goal.iterator-loop-answer).can_next l.answer-iterator

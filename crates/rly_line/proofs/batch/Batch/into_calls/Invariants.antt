@@ -3,7 +3,7 @@ use Rattle.std.specs.Vec.Iter.{drain_items}
 use Rattle.rly_line.specs.Batches.{calls_after, calls_in_batch}
 use Rattle.rly_line.proofs.batch.Batch.into_calls.Given as goal
 
--- the calls that were moved and those of the asks that are left are all of them
+-- the calls that were moved and those of the remaining asks are all of them
 abbrev pub invariant-loop-ask : goal.invariant-loop-ask
 invariant-loop-ask l =
     (goal.iterator-loop-ask).can_next l.ask-iterator

@@ -1,7 +1,7 @@
 use Rattle.std.proofs.Common.{◌∙◌, ap, arith}
 use Rattle.rly_line.specs.EndViews.{names_of}
-use Rattle.rly_line.specs.Responding.{Responding}
-use Rattle.rly_line.proofs.Telling.{after_ok, may_ok, names_kept, seat_ok}
+use Rattle.rly_line.specs.ResponderView.{ResponderView}
+use Rattle.rly_line.proofs.ReplyHistories.{after_ok, may_ok, names_kept, seat_ok}
 use Rattle.rly_line.proofs.responder.Responder.answer.Goals as goal
 
 pub tell-requires-clause-seat : goal.tell-requires-clause-seat
@@ -35,4 +35,4 @@ returns-clause-names g c =
     let next = rw (← c.self.view_is) at c.requires.next in
     let answered = rw (← c.self.view_is) at c.requires.answered in
     names_kept c.self.inside.line c.self.inside.story c.push.new.self c.args.batch.now.value c.args.answers c.self.invariant (omega (arith, c.wanted-some.ensures.count, c.wanted-some.ensures.some.0)) c.requires.whose c.requires.count next answered c.push.ensures
-    c.tell.new.self c.tell.result c.tell.ensures.told ∙ ap (λ (r : Responding). names_of r.lines) c.self.view_is
+    c.tell.new.self c.tell.result c.tell.ensures.told ∙ ap (λ (r : ResponderView). names_of r.lines) c.self.view_is

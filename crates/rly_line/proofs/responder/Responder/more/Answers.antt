@@ -1,4 +1,4 @@
-use Rattle.rly_line.proofs.Telling.{took_any}
+use Rattle.rly_line.proofs.ReplyHistories.{took_any}
 use Rattle.rly_line.proofs.responder.Responder.more.Goals as goal
 
 pub invariant_of-self : goal.invariant_of-self

@@ -1,5 +1,5 @@
 use Rattle.std.proofs.Common.{true}
-use Rattle.rly_line.proofs.Telling.{took_any}
+use Rattle.rly_line.proofs.ReplyHistories.{took_any}
 use Rattle.rly_line.proofs.responder.Responder.wait.Goals as goal
 
 pub invariant_of-self : goal.invariant_of-self

@@ -3,7 +3,7 @@ use Rattle.crossbeam_channel.specs.Claims.{view}
 use Rattle.rly_line.specs.declared.submission.LineView.{LineView}
 use Rattle.rly_machine.specs.declared.call.Call.{Call}
 use Rattle.rly_line.specs.Batches.{calls_in_line}
-use Rattle.rly_line.specs.HelpersEnds.{Putter, together}
+use Rattle.rly_line.specs.HelpersEnds.{Putter, merged_view}
 use Rattle.rly_line.specs.Submission.{IsBeginning, calls_of}
 use Rattle.rly_line.proofs.Submitting.{beginning, learns, merges, parts}
 use Rattle.rly_line.proofs.submission.SubmitEnd.law_beginning.Goals as goal
@@ -24,7 +24,7 @@ pub returns-clause-begins : goal.returns-clause-begins
 returns-clause-begins c =
     let items : List Call = calls_in_line c.learn_as.ensures.rule.0 in
     let said = c.learn_as.ensures.rule.1 in
-    let both : LineView = together (view c.args.taker.now) (view c.self.inside.pass) in
+    let both : LineView = merged_view (view c.args.taker.now) (view c.self.inside.pass) in
     let told : calls_of both.seat (both.taken ++ items) ≡ both.put =
     subst (λ (v : LineView). calls_of v.seat (v.taken ++ items) ≡ v.put) c.absorb.ensures.rule said in
     subst (λ (y : Putter). IsBeginning y.seat both.taken y.put) c.self.view_is

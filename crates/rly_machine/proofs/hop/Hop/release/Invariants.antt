@@ -3,7 +3,7 @@ use Rattle.rly_machine.specs.Kept.{hop_state}
 use Rattle.rly_machine.specs.State.{bytes_of}
 use Rattle.rly_machine.proofs.hop.Hop.release.Given as goal
 
--- so many went from the front of the flight, and their bytes were counted
+-- the items removed from the front of the flight, and their bytes
 abbrev pub invariant-loop-item : goal.invariant-loop-item
 invariant-loop-item g l = record {
   kept : hop_state l.self ≡ (record (hop_state l.initial.self) { flight = drop l._item l.initial.self.flight.items });

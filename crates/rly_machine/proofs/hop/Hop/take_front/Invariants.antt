@@ -4,7 +4,7 @@ use Rattle.rly_machine.specs.Kept.{hop_state}
 use Rattle.rly_machine.specs.State.{bytes_of}
 use Rattle.rly_machine.proofs.hop.Hop.take_front.Given as goal
 
--- so many went from the front of the queue, their ids were listed, and their bytes counted
+-- the items removed from the front of the queue, their ids, and their bytes
 abbrev pub invariant-loop-item : goal.invariant-loop-item
 invariant-loop-item g l = record {
   kept : hop_state l.self ≡ (record (hop_state l.initial.self) { queue = drop l._item l.initial.self.queue.items });

@@ -1,7 +1,7 @@
 use Rattle.std.proofs.Common.{◌≡◌, ◌++◌, length}
 use Rattle.rly_machine.proofs.queue.Queue.of.Given as goal
 
--- what is still to come has room after what is in the queue
+-- the remaining items have room after those in the queue
 abbrev pub invariant-loop-item : goal.invariant-loop-item
 invariant-loop-item g l = record {
   all : l.queue.items ++ l.rest.items ≡ l.fn.items.items;

@@ -8,4 +8,4 @@ returns-in-Err-read-clause-memory c = λ e. (c.memory.ensures.place, λ blank. w
 
 pub returns-clause-memory : goal.returns-clause-memory
 returns-clause-memory c =
-    IfErr-weaker c.judged.result _ _ (λ y p e. (p e, λ blank. with_draft _ _ _ c.in-Ok.ensures.ok (sym c.in-Ok-Some.ensures.draft ∙ c.in-Ok-Some.field-0-is) blank)) c.judged.ensures.memory
+    IfErr-weaker c.checked_plan.result _ _ (λ y p e. (p e, λ blank. with_draft _ _ _ c.in-Ok.ensures.ok (sym c.in-Ok-Some.ensures.draft ∙ c.in-Ok-Some.field-0-is) blank)) c.checked_plan.ensures.memory

@@ -1,0 +1,235 @@
+//! `rly serve`: the relay of a plan on the device in a file, with reports or without.
+
+ghost use Rattle.std.specs.Prelude.{◌≡◌, ◌⊎◌, IfOk, OnOk, false};
+ghost use Rattle.std.specs.Io.KnownBytes.{Appends};
+ghost use Rattle.rly_plan.specs.Sound.{IsSoundPlan};
+ghost use Rattle.rly_station.specs.Warnings.{AreReadsLogged};
+ghost use Rattle.rly_daemon.specs.Program.{HasServed, HasServedReporting, HasServedWith, ended_line};
+
+use crate::counted_disk::CountedDisk;
+use crate::gate_tally::GateTally;
+use crate::program::Host;
+use rly_core::Refusal;
+use rly_daemon_commands::{CommandFault, FileDisk, open_journal, refusal_with_cause};
+use rly_daemon_lines::TextFault;
+use rly_daemon_reporter::{ReporterEnd, Tally};
+use rly_daemon_serve::{Reports, serve, serve_reporting};
+use rly_disk::Disk;
+use rly_journal::Journal;
+use rly_plan::Plan;
+use rly_segment::read_header;
+use rly_station::{ErrorLines, ServeFault, read_keys, read_plan};
+use std::alloc::{AllocError, Global};
+use std::fs::{File, Files};
+use std::io::Write;
+use std::sync::{Arc, OnceLock};
+
+/// Runs the relay of a plan, with a report at once and every `report` seconds, or without reports if that is 0. The
+/// plan and its keys are read before the file is touched.
+pub(crate) fn run_serving<H: Host, W: Write + Send, E: Write>(
+    rt: &H,
+    file: &str,
+    path: &str,
+    turns: u64,
+    seconds: u64,
+    writer: &mut W,
+    errors: &mut E,
+) -> Result<(), CommandFault>
+    ensures served { OnOk result
+        (HasServedWith turns seconds (W.contents writer.old) (W.contents writer.new) (E.contents errors.new)) }
+{
+    let plan = read_plan(rt, path)?;
+    if seconds == 0 {
+        serve_plan(rt, file, path, &plan, turns, errors)
+    } else {
+        report_plan(rt, file, path, &plan, turns, seconds, writer, errors)
+    }
+}
+
+/// Runs the relay of a plan on the device in a file.
+fn serve_plan<H: Host, E: Write>(
+    rt: &H,
+    file: &str,
+    path: &str,
+    plan: &Plan,
+    turns: u64,
+    errors: &mut E,
+) -> Result<(), CommandFault>
+    requires { IsSoundPlan plan.now }
+    ensures served { OnOk result (HasServed turns (E.contents errors.new)) }
+{
+    let keys = read_keys(rt, plan, path)?;
+    let lines = shared_lines(rt.alloc())?;
+    let (journal, size) = open_file(rt, file, &lines)?;
+    match serve(rt, journal, plan, keys, turns, size, lines, errors) {
+        Ok(_relayed) => report_end(turns, errors),
+        Err(failed) => Err(fault_of(failed)),
+    }
+}
+
+/// The same, with a report at once and every `report` seconds.
+fn report_plan<H: Host, W: Write + Send, E: Write>(
+    rt: &H,
+    file: &str,
+    path: &str,
+    plan: &Plan,
+    turns: u64,
+    seconds: u64,
+    writer: &mut W,
+    errors: &mut E,
+) -> Result<(), CommandFault>
+    requires { IsSoundPlan plan.now }
+    ensures served { OnOk result
+        (HasServedReporting turns (W.contents writer.old) (W.contents writer.new) (E.contents errors.new)) }
+{
+    let keys = read_keys(rt, plan, path)?;
+    let lines = shared_lines(rt.alloc())?;
+    let (journal, size, tally) = open_tallied(rt, file, plan, &lines)?;
+    let word = OnceLock::new();
+    let reports = Reports {
+        seconds,
+        tally,
+        word: &word,
+    };
+    match serve_reporting(
+        rt, journal, plan, keys, turns, size, lines, reports, writer, errors,
+    ) {
+        Ok(reported) => reports_ended(turns, reported.into_end(), errors),
+        Err((fault, disk)) => Err(fault_of((fault, disk.into_inner()))),
+    }
+}
+
+/// The error of a relay. If its journal broke, it has the system's error of the device.
+fn fault_of(failed: (ServeFault, FileDisk)) -> CommandFault {
+    let (fault, disk) = failed;
+    match fault {
+        ServeFault::Refused(Refusal::Broken, _) => refusal_with_cause(Refusal::Broken, &disk),
+        fault => CommandFault::Serve(fault),
+    }
+}
+
+/// Logs why a relay that reports ended. Returns an error if the reports' writer failed.
+fn reports_ended<E: Write>(turns: u64, end: ReporterEnd, errors: &mut E) -> Result<(), CommandFault>
+    ensures told { OnOk result (Appends (E.contents errors.old) (E.contents errors.new) (ended_line turns)) }
+    ensures end { OnOk result ((end ≡ ReporterEnd.NoneDue) ⊎ (end ≡ ReporterEnd.Closed)) }
+{
+    report_end(turns, errors)?;
+    match end {
+        ReporterEnd::Output => Err(CommandFault::Text(TextFault::Output)),
+        ReporterEnd::NoneDue | ReporterEnd::Closed => Ok(()),
+    }
+}
+
+/// The log on standard error that the workers and the device share.
+fn shared_lines(alloc: Global) -> Result<Arc<ErrorLines, Global>, ServeFault> {
+    match ErrorLines::shared(alloc) {
+        Ok(lines) => Ok(lines),
+        Err(refused) => Err(refused.into()),
+    }
+}
+
+/// The counters of a plan's workers.
+fn tally_of(alloc: Global, plan: &Plan) -> Result<Arc<Tally, Global>, ServeFault> {
+    match new_tally(alloc, plan) {
+        Ok(tally) => Ok(tally),
+        Err(refused) => Err(refused.into()),
+    }
+}
+
+fn new_tally(alloc: Global, plan: &Plan) -> Result<Arc<Tally, Global>, AllocError> {
+    let tally = Tally::new(alloc, plan)?;
+    Ok(Arc::new(alloc, tally)?)
+}
+
+/// The same disk, which counts its gates if it has a header.
+fn with_gate_tally(
+    disk: FileDisk,
+    tally: &Arc<Tally, Global>,
+) -> Result<CountedDisk<FileDisk>, ServeFault> {
+    let mut disk = disk;
+    match gates_of(&mut disk, tally) {
+        Ok(gates) => Ok(CountedDisk::new(disk, gates)),
+        Err(refused) => Err(refused.into()),
+    }
+}
+
+/// The gate counters of a disk, if it has a header.
+fn gates_of(
+    disk: &mut FileDisk,
+    tally: &Arc<Tally, Global>,
+) -> Result<Option<GateTally>, AllocError> {
+    let Ok(geometry) = read_header(disk) else {
+        return Ok(None);
+    };
+    let tally = Arc::try_clone(tally)?;
+    Ok(Some(GateTally::new(&geometry, tally)))
+}
+
+/// Logs why a relay ended.
+fn report_end<E: Write>(turns: u64, errors: &mut E) -> Result<(), CommandFault>
+    ensures { OnOk result (Appends (E.contents errors.old) (E.contents errors.new) (ended_line turns)) }
+{
+    let told = writeln!(errors, "rly: ended after {turns} turns");
+    told.map_err(|_| CommandFault::Serve(ServeFault::Unreported))
+}
+
+/// Opens the device in a file, which logs its failed reads on the lines.
+fn open_disk<H: AllocGlobal + Files<File = File>>(
+    rt: &H,
+    file: &str,
+    lines: &Arc<ErrorLines, Global>,
+) -> Result<FileDisk, CommandFault>
+    ensures told { IfOk result (λ disk. AreReadsLogged disk.read_failures) }
+{
+    let disk = FileDisk::open(rt, file)?;
+    match Arc::try_clone(lines) {
+        Ok(lines) => Ok(disk.with_warnings(lines)),
+        Err(refused) => Err(CommandFault::Serve(refused.into())),
+    }
+}
+
+/// Opens the journal on the device in a file, and returns the file's size in bytes.
+fn open_file<H: AllocGlobal + Files<File = File>>(
+    rt: &H,
+    file: &str,
+    lines: &Arc<ErrorLines, Global>,
+) -> Result<(Journal<FileDisk>, u64), CommandFault>
+    ensures whole { IfOk result (λ opened. opened.0.broken ≡ false) }
+{
+    let disk = open_disk(rt, file, lines)?;
+    let size = disk.size();
+    let journal = open_journal(rt.alloc(), disk)?;
+    Ok((journal, size))
+}
+
+/// The same for a plan whose workers count; the gates of the device are counted too.
+fn open_tallied<H: AllocGlobal + Files<File = File>>(
+    rt: &H,
+    file: &str,
+    plan: &Plan,
+    lines: &Arc<ErrorLines, Global>,
+) -> Result<(Journal<CountedDisk<FileDisk>>, u64, Arc<Tally, Global>), CommandFault>
+    ensures whole { IfOk result (λ opened. opened.0.broken ≡ false) }
+{
+    let tally = tally_of(rt.alloc(), plan)?;
+    let (journal, size) = open_counted(rt, file, &tally, lines)?;
+    Ok((journal, size, tally))
+}
+
+/// The journal on the device in a file, which counts its gates.
+fn open_counted<H: AllocGlobal + Files<File = File>>(
+    rt: &H,
+    file: &str,
+    tally: &Arc<Tally, Global>,
+    lines: &Arc<ErrorLines, Global>,
+) -> Result<(Journal<CountedDisk<FileDisk>>, u64), CommandFault>
+    ensures whole { IfOk result (λ opened. opened.0.broken ≡ false) }
+{
+    let disk = open_disk(rt, file, lines)?;
+    let size = disk.size();
+    let disk = with_gate_tally(disk, tally)?;
+    match Journal::open(rt.alloc(), disk) {
+        Ok(journal) => Ok((journal, size)),
+        Err((fault, disk)) => Err(refusal_with_cause(Refusal::from(fault), &disk.into_inner())),
+    }
+}

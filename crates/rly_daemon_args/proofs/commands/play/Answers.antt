@@ -1,0 +1,6 @@
+use Rattle.rly_daemon_args.specs.CommandLine.{play_app}
+use Rattle.rly_daemon_args.proofs.commands.play.Goals as goal
+
+pub returns : goal.returns
+unfolding play_app
+returns c = c.with_arg.ensures _ _ (c.with_path-with_file.ensures _ c.command_with_help-bare.ensures) c.batch.ensures.rule

@@ -1,0 +1,8 @@
+use Rattle.rly_daemon_args.specs.CommandLine.{serve_app}
+use Rattle.rly_daemon_args.proofs.commands.serve.Goals as goal
+
+pub returns : goal.returns
+unfolding serve_app
+returns c =
+    let files = c.with_path-with_plan.ensures _ (c.with_path-with_file.ensures _ c.command_with_help-bare.ensures) in
+    c.with_option.ensures _ (c.with_option-with_turns.ensures _ files)

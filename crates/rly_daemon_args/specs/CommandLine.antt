@@ -1,0 +1,192 @@
+-- The settings of a command line (docs/COMMANDS.md): those in clap's matches of its words.
+use Rattle.std.specs.Prelude.{◌≡◌, ◌≢◌, ⊤, ℕ, List, [], ◌∷◌, Bool, true, false, Option, Some, None, codes, unwrap_or}
+use Rattle.std.specs.Str.Parse.{ParsesUnsigned}
+use Rattle.std.specs.declared.num.ParseIntError.{ParseIntError}
+use Rattle.clap.specs.Words.{App, IsAmong, Kinds, ReadsOne, Row, Rule, Text, fault_of, first_of, kind_of, one_of}
+use Rattle.clap.specs.Words.{new_app, new_rule, subcommand_of, with_rule, with_subcommand}
+use Rattle.clap.specs.declared.builder.action.ArgAction.TheVariants.{Set, SetTrue}
+use Rattle.clap.specs.declared.builder.value_parser.ValueParser.TheVariants as parser
+use Rattle.clap.specs.declared.error.Error.{Error}
+use Rattle.clap.specs.declared.error.kind.ErrorKind.TheVariants as kind
+use Rattle.rly_core.specs.declared.params.Params.{Params}
+use Rattle.rly_daemon_args.specs.declared.given.Settings.{Settings}
+use Rattle.rly_daemon_args.specs.declared.given.Settings.TheVariants.{Sim, Format, Play, Audit, Serve, Key, Plan}
+use Rattle.rly_daemon_args.specs.declared.given.SettingsFault.{SettingsFault}
+use Rattle.rly_daemon_args.specs.declared.given.SettingsFault.TheVariants.{Asked, CommandLine, OutOfMemory}
+
+-- ---- the command line
+
+-- an option that takes a number below 2^64
+abbrev pub number_rule : Text → Rule
+number_rule name = record (new_rule name) {
+  long = Some name;
+  action = Some Set;
+  value_names = 1;
+  parser = Some (parser.Unsigned 0 18446744073709551615);
+}
+
+-- one that has a default
+abbrev pub option_rule : Text → Text → Rule
+option_rule name default = record (number_rule name) { defaults = default ∷ [] }
+
+-- an option without a value
+abbrev pub flag_rule : Text → Rule
+flag_rule name = record (new_rule name) { long = Some name; action = Some SetTrue }
+
+-- a path argument
+abbrev pub path_rule : Text → Rule
+path_rule name = record (new_rule name) { action = Some Set; value_names = 1; required = true }
+
+-- the number of lines per round, 1 to 64
+abbrev pub batch_rule : Rule
+batch_rule = record (option_rule (codes "batch") (codes "1")) { parser = Some (parser.Unsigned 1 64) }
+
+-- the moment at which a plan is shown, below 2^52
+abbrev pub at_rule : Rule
+at_rule = record (number_rule (codes "at")) { parser = Some (parser.Unsigned 0 4503599627370495) }
+
+-- a command with the options for the payload bytes of a spool, for CoDel and for the longest payload
+abbrev pub with_more_rules : App → App
+with_more_rules app = with_rule (with_rule (with_rule (with_rule (with_rule app
+    (option_rule (codes "bytes") (codes "1048576")))
+    (option_rule (codes "maxpacket") (codes "1500")))
+    (option_rule (codes "target") (codes "5000")))
+    (option_rule (codes "interval") (codes "100000")))
+    (option_rule (codes "payload") (codes "1200"))
+
+-- a command with the options for all parameters of a spool
+abbrev pub with_param_rules : App → App
+with_param_rules app = with_more_rules (with_rule (with_rule (with_rule (with_rule app
+    (option_rule (codes "hops") (codes "4")))
+    (option_rule (codes "peers") (codes "4")))
+    (option_rule (codes "window") (codes "8")))
+    (option_rule (codes "items") (codes "1024")))
+
+unfoldable pub sim_app : App
+sim_app = with_param_rules (new_app (codes "sim"))
+
+unfoldable pub format_app : App
+format_app =
+    with_rule (with_rule (with_rule (with_param_rules (with_rule (new_app (codes "format")) (path_rule (codes "file"))))
+    (option_rule (codes "segments") (codes "4"))) (number_rule (codes "length"))) (flag_rule (codes "force"))
+
+unfoldable pub play_app : App
+play_app = with_rule (with_rule (new_app (codes "play")) (path_rule (codes "file"))) batch_rule
+
+unfoldable pub audit_app : App
+audit_app = with_rule (new_app (codes "audit")) (path_rule (codes "file"))
+
+unfoldable pub serve_app : App
+serve_app = with_rule (with_rule (with_rule (with_rule (new_app (codes "serve"))
+    (path_rule (codes "file"))) (path_rule (codes "plan")))
+    (option_rule (codes "turns") (codes "0")))
+    (option_rule (codes "report") (codes "0"))
+
+unfoldable pub key_app : App
+key_app = new_app (codes "key")
+
+unfoldable pub plan_app : App
+plan_app = with_rule (with_rule (new_app (codes "plan")) (path_rule (codes "plan"))) at_rule
+
+-- the program: a version, and a required command
+unfoldable pub rly_top : App
+rly_top = let new = new_app (codes "rly") in
+    record new {
+      top = record new.top { has_version = true; subcommand_required = true; arg_required_else_help = true };
+    }
+
+unfoldable pub rly_app : App
+rly_app =
+    with_subcommand (with_subcommand (with_subcommand (with_subcommand (with_subcommand (with_subcommand
+    (with_subcommand rly_top sim_app.top) format_app.top) play_app.top) audit_app.top) serve_app.top) key_app.top)
+    plan_app.top
+
+-- ---- the request in its matches
+
+-- the command that clap's matches of the words name, with the row of each of its arguments
+unfoldable pub asked_of : List Text → Option (Text × List Row)
+asked_of words = subcommand_of rly_app words
+
+-- the number below 2^64 that is read from a value
+abbrev pub ReadsNumber : Option Text → Option ℕ → Type 0
+ReadsNumber None n = n ≡ None
+ReadsNumber (Some text) n = ReadsOne {E = ParseIntError} (ParsesUnsigned 64 10) text n
+
+-- the number of an option: that of its value, or the default
+abbrev pub HasNumber : List Row → Text → ℕ → ℕ → Type 0
+HasNumber rows name default n =
+    (given : Option ℕ) × ReadsNumber (one_of name rows) given × (n ≡ unwrap_or given default)
+
+-- whether an option without a value is given
+pub record HasFlag (rows : List Row) (name : Text) (on : Bool) : Type 0 where
+  pub given : one_of name rows ≡ Some (codes "true") → on ≡ true
+  pub left_out : one_of name rows ≡ Some (codes "false") → on ≡ false
+
+-- the path argument of this name
+abbrev pub path_in : Text → List Row → Text
+path_in name rows = unwrap_or (first_of name rows) []
+
+-- the parameters in the options
+pub record HasParams (rows : List Row) (params : Params) : Type 0 where
+  pub hops : HasNumber rows (codes "hops") 4 params.hops
+  pub peers : HasNumber rows (codes "peers") 4 params.peers
+  pub window : HasNumber rows (codes "window") 8 params.window
+  pub items : HasNumber rows (codes "items") 1024 params.items
+  pub bytes : HasNumber rows (codes "bytes") 1048576 params.bytes
+  pub maxpacket : HasNumber rows (codes "maxpacket") 1500 params.maxpacket
+  pub target : HasNumber rows (codes "target") 5000 params.target
+  pub interval : HasNumber rows (codes "interval") 100000 params.interval
+  pub payload : HasNumber rows (codes "payload") 1200 params.payload
+
+-- the settings are those of the matched command, with its arguments
+abbrev pub IsSettings : Option (Text × List Row) → Settings → Type 0
+IsSettings None s = ⊥
+IsSettings (Some (command, rows)) (Sim params) = (command ≡ codes "sim") × HasParams rows params
+IsSettings (Some (command, rows)) (Format file params segments length force) = (command ≡ codes "format")
+    × (file.now ≡ path_in (codes "file") rows)
+    × HasParams rows params
+    × HasNumber rows (codes "segments") 4 segments
+    × ReadsNumber (one_of (codes "length") rows) length
+    × HasFlag rows (codes "force") force
+IsSettings (Some (command, rows)) (Play file batch) = (command ≡ codes "play")
+    × (file.now ≡ path_in (codes "file") rows)
+    × HasNumber rows (codes "batch") 1 batch
+IsSettings (Some (command, rows)) (Audit file) = (command ≡ codes "audit") × (file.now ≡ path_in (codes "file") rows)
+IsSettings (Some (command, rows)) (Serve file plan turns report) = (command ≡ codes "serve")
+    × (file.now ≡ path_in (codes "file") rows)
+    × (plan.now ≡ path_in (codes "plan") rows)
+    × HasNumber rows (codes "turns") 0 turns
+    × HasNumber rows (codes "report") 0 report
+IsSettings (Some (command, rows)) Key = command ≡ codes "key"
+IsSettings (Some (command, rows)) (Plan plan at) = (command ≡ codes "plan")
+    × (plan.now ≡ path_in (codes "plan") rows)
+    × ReadsNumber (one_of (codes "at") rows) at
+
+-- ---- its errors
+
+-- a command line is wrong, unless it asks for help or the version
+abbrev pub IsWrong : Error → Type 0
+IsWrong error = (kind_of error ≢ kind.DisplayHelp) × (kind_of error ≢ kind.DisplayVersion)
+
+-- the kinds of error that clap may return for the words: those of the first step that fails, none if it accepts
+-- them
+unfoldable pub kinds_at : List Text → Kinds
+kinds_at words = fault_of rly_app words
+
+-- the words ask for help or the version
+pub record AsksHelp (words : List Text) : Type 0 where
+  pub text : Error
+  pub answers : ¬ IsWrong text
+  pub asked : IsAmong (kind_of text) (kinds_at words)
+
+-- a fault is the one of its text: an answer that the words ask for, or the reason of a refusal
+abbrev pub IsTrueFault : List Text → SettingsFault → Type 0
+IsTrueFault words OutOfMemory = ⊤
+IsTrueFault words (Asked text) = AsksHelp words
+IsTrueFault words (CommandLine text) = IsWrong text
+
+-- the fault of clap's error
+abbrev pub IsReportedAs : Error → SettingsFault → Type 0
+IsReportedAs error OutOfMemory = kind_of error ≡ kind.OutOfMemory
+IsReportedAs error (Asked text) = (text ≡ error) × ¬ IsWrong text
+IsReportedAs error (CommandLine text) = (text ≡ error) × IsWrong text × (kind_of error ≢ kind.OutOfMemory)

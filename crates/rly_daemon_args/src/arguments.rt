@@ -1,0 +1,201 @@
+ghost use Rattle.std.specs.Prelude.{◌≡◌, false};
+ghost use Rattle.clap.specs.Words.{App, Rule, rule_of, with_rule};
+ghost use Rattle.rly_daemon_args.specs.HelpersBuilt.{IsBuilt};
+ghost use Rattle.rly_daemon_args.specs.CommandLine.{at_rule, batch_rule, flag_rule, number_rule, option_rule};
+ghost use Rattle.rly_daemon_args.specs.CommandLine.{path_rule, with_more_rules, with_param_rules};
+
+use clap::{Arg, ArgAction, Command, value_parser};
+use rly_core::limits;
+use std::alloc::{AllocError, Global};
+
+/// Maximum number of lines per round.
+const MAX_BATCH: i64 = limits::MAX_ROUND as i64;
+
+/// The last moment of a plan, in microseconds since the Unix epoch.
+const LAST_MOMENT: i64 = limits::MOMENT_LIMIT as i64 - 1;
+
+/// Adds an argument to a command. `Err`: out of memory.
+pub(crate) fn with_arg<'a>(
+    command: Result<Command<'a>, AllocError>,
+    arg: Arg<'a>,
+) -> Result<Command<'a>, AllocError>
+    requires { arg.global ≡ false }
+    ensures { (app : App) (rule : Rule) → IsBuilt app command.entry → rule_of arg.entry ≡ rule
+        → IsBuilt (with_rule app rule) result }
+{
+    command?.arg(arg)
+}
+
+/// Adds an option with a number and a default.
+pub(crate) fn with_option<'a>(
+    alloc: Global,
+    command: Result<Command<'a>, AllocError>,
+    name: &'a str,
+    default: &'a str,
+    help: &'a str,
+) -> Result<Command<'a>, AllocError>
+    ensures { (app : App) → IsBuilt app command.entry
+        → IsBuilt (with_rule app (option_rule name.now default.now)) result }
+{
+    with_arg(command, option(alloc, name, default, help))
+}
+
+/// Adds a path argument.
+pub(crate) fn with_path<'a>(
+    alloc: Global,
+    command: Result<Command<'a>, AllocError>,
+    name: &'a str,
+    value_name: &'a str,
+    help: &'a str,
+) -> Result<Command<'a>, AllocError>
+    ensures { (app : App) → IsBuilt app command.entry → IsBuilt (with_rule app (path_rule name.now)) result }
+{
+    with_arg(command, path(alloc, name, value_name, help))
+}
+
+/// Adds the options for the parameters of a spool.
+pub(crate) fn with_params<'a>(
+    alloc: Global,
+    command: Result<Command<'a>, AllocError>,
+) -> Result<Command<'a>, AllocError>
+    ensures { (app : App) → IsBuilt app command.entry → IsBuilt (with_param_rules app) result }
+{
+    let with_hops = with_option(alloc, command, "hops", "4", "Next hops, 1 to 64");
+    let with_peers = with_option(
+        alloc,
+        with_hops,
+        "peers",
+        "4",
+        "Upstream neighbours, 1 to 64",
+    );
+    let with_window = with_option(
+        alloc,
+        with_peers,
+        "window",
+        "8",
+        "Maximum datagrams in flight per hop, 1 to 64",
+    );
+    let with_items = with_option(
+        alloc,
+        with_window,
+        "items",
+        "1024",
+        "Maximum live datagrams (waiting or in flight), 1 to 16384",
+    );
+    with_more_params(alloc, with_items)
+}
+
+/// Adds the options for the payload bytes of a spool, for CoDel and for the longest payload.
+fn with_more_params<'a>(
+    alloc: Global,
+    command: Result<Command<'a>, AllocError>,
+) -> Result<Command<'a>, AllocError>
+    ensures { (app : App) → IsBuilt app command.entry → IsBuilt (with_more_rules app) result }
+{
+    let with_bytes = with_option(
+        alloc,
+        command,
+        "bytes",
+        "1048576",
+        "Maximum live payload bytes, 1 to 16777216",
+    );
+    let with_maxpacket = with_option(
+        alloc,
+        with_bytes,
+        "maxpacket",
+        "1500",
+        "CoDel drops nothing while at most this many payload bytes are queued behind a datagram, 0 to 65535",
+    );
+    let with_target = with_option(
+        alloc,
+        with_maxpacket,
+        "target",
+        "5000",
+        "CoDel's target queueing delay in microseconds, 1 to the interval",
+    );
+    let with_interval = with_option(
+        alloc,
+        with_target,
+        "interval",
+        "100000",
+        "CoDel's interval in microseconds, 1 to 3600000000",
+    );
+    with_option(
+        alloc,
+        with_interval,
+        "payload",
+        "1200",
+        "Longest payload of a datagram in bytes, 1 to 8192",
+    )
+}
+
+/// An option without a value.
+pub(crate) fn flag<'a>(alloc: Global, name: &'a str, help: &'a str) -> Arg<'a>
+    ensures rule { rule_of result ≡ flag_rule name.now }
+    ensures own { result.global ≡ false }
+{
+    Arg::new(alloc, name)
+        .long(name)
+        .action(ArgAction::SetTrue)
+        .help(help)
+}
+
+/// A path argument.
+fn path<'a>(alloc: Global, name: &'a str, value_name: &'a str, help: &'a str) -> Arg<'a>
+    ensures rule { rule_of result ≡ path_rule name.now }
+    ensures own { result.global ≡ false }
+{
+    Arg::new(alloc, name)
+        .value_name(value_name)
+        .required(true)
+        .action(ArgAction::Set)
+        .help(help)
+}
+
+/// The option for the number of lines per round.
+pub(crate) fn batch<'a>(alloc: Global) -> Arg<'a>
+    ensures rule { rule_of result ≡ batch_rule }
+    ensures own { result.global ≡ false }
+{
+    option(
+        alloc,
+        "batch",
+        "1",
+        "Lines per round (synced and answered together), 1 to 64",
+    )
+    .value_parser(value_parser!(u64).range(1..=MAX_BATCH))
+}
+
+/// The option for the moment at which a plan is shown.
+pub(crate) fn at<'a>(alloc: Global) -> Arg<'a>
+    ensures rule { rule_of result ≡ at_rule }
+    ensures own { result.global ≡ false }
+{
+    number(
+        alloc,
+        "at",
+        "Moment in microseconds since the Unix epoch, 0 to 4503599627370495; default: now",
+    )
+    .value_parser(value_parser!(u64).range(0..=LAST_MOMENT))
+}
+
+/// An option with a number and a default.
+fn option<'a>(alloc: Global, name: &'a str, default: &'a str, help: &'a str) -> Arg<'a>
+    ensures rule { rule_of result ≡ option_rule name.now default.now }
+    ensures own { result.global ≡ false }
+{
+    number(alloc, name, help).default_value(default)
+}
+
+/// An option with a number.
+pub(crate) fn number<'a>(alloc: Global, name: &'a str, help: &'a str) -> Arg<'a>
+    ensures rule { rule_of result ≡ number_rule name.now }
+    ensures own { result.global ≡ false }
+{
+    Arg::new(alloc, name)
+        .long(name)
+        .value_name("N")
+        .action(ArgAction::Set)
+        .value_parser(value_parser!(u64))
+        .help(help)
+}

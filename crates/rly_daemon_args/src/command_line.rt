@@ -1,0 +1,146 @@
+ghost use Rattle.std.specs.Prelude.{◌≡◌, [], IfErr, IfOk, IfSome, OnOk, Some, map};
+ghost use Rattle.clap.specs.Words.{found_of, one_of, rows_of, subcommand_rows_of};
+ghost use Rattle.rly_daemon_args.specs.CommandLine.{HasFlag, HasNumber, HasParams, IsSettings, IsTrueFault};
+ghost use Rattle.rly_daemon_args.specs.CommandLine.{ReadsNumber, asked_of, kinds_at, path_in};
+
+use crate::commands::program;
+use crate::given::{Settings, SettingsFault};
+use clap::error::ErrorKind;
+use clap::{ArgMatches, Command};
+use rly_core::Params;
+use std::alloc::Global;
+use std::convert::AsStr;
+
+/// The default number of segments of a device.
+const DEFAULT_SEGMENTS: u64 = 4;
+
+/// The default number of lines per round.
+const DEFAULT_BATCH: u64 = 1;
+
+/// The default number of turns of each worker: 0, run until stopped.
+const DEFAULT_TURNS: u64 = 0;
+
+/// The default number of seconds between two reports: 0, off.
+const DEFAULT_REPORT: u64 = 0;
+
+/// Parses a command line, the program's name first. Faults are a value that is no `u64`, a batch out of its limits,
+/// an unknown or a repeated option, and a missing command or file; all other limits are checked later.
+pub fn settings<'a, S: AsStr>(alloc: Global, words: &'a [S]) -> Result<Settings<'a>, SettingsFault>
+    // Each name, number and file is that of clap's matches, or the default.
+    ensures asked { IfOk result (λ settings. IsSettings (asked_of (map S.text words.now)) settings) }
+    // A request for help or the version returns `Asked`, and any other fault `CommandLine`.
+    ensures told { IfErr result (λ fault. IsTrueFault (map S.text words.now) fault) }
+    // Words that clap refuses are never accepted.
+    ensures right { OnOk result (kinds_at (map S.text words.now) ≡ []) }
+{
+    let mut command: Command<'a> = program(alloc)?;
+    let matches = command.try_get_matches_from_mut(words)?;
+    match settings_of(&matches) {
+        Some(settings) => Ok(settings),
+        None => {
+            let error = command.error(ErrorKind::MissingSubcommand, "no command is given")?;
+            Err(SettingsFault::CommandLine(error))
+        }
+    }
+}
+
+/// The settings of the matched command.
+fn settings_of<'a>(matches: &ArgMatches<'a>) -> Option<Settings<'a>>
+    ensures { IfSome result (λ settings. IsSettings (subcommand_rows_of matches.now) settings) }
+{
+    if let Some(options) = options_of(matches, "sim") {
+        return Some(Settings::Sim {
+            params: params_of(options),
+        });
+    }
+    if let Some(options) = options_of(matches, "format") {
+        return Some(Settings::Format {
+            file: path_of(options, "file"),
+            params: params_of(options),
+            segments: number_of(options, "segments", DEFAULT_SEGMENTS),
+            length: given_number(options, "length"),
+            force: has_flag(options, "force"),
+        });
+    }
+    if let Some(options) = options_of(matches, "play") {
+        return Some(Settings::Play {
+            file: path_of(options, "file"),
+            batch: number_of(options, "batch", DEFAULT_BATCH),
+        });
+    }
+    if let Some(options) = options_of(matches, "audit") {
+        return Some(Settings::Audit {
+            file: path_of(options, "file"),
+        });
+    }
+    if options_of(matches, "key").is_some() {
+        return Some(Settings::Key);
+    }
+    if let Some(options) = options_of(matches, "plan") {
+        return Some(Settings::Plan {
+            plan: path_of(options, "plan"),
+            at: given_number(options, "at"),
+        });
+    }
+    let options = options_of(matches, "serve")?;
+    Some(Settings::Serve {
+        file: path_of(options, "file"),
+        plan: path_of(options, "plan"),
+        turns: number_of(options, "turns", DEFAULT_TURNS),
+        report: number_of(options, "report", DEFAULT_REPORT),
+    })
+}
+
+/// The options of a command, if it is the matched one.
+fn options_of<'b, 'a>(matches: &'b ArgMatches<'a>, name: &str) -> Option<&'b ArgMatches<'a>>
+    ensures { IfSome result
+        (λ options. subcommand_rows_of matches.now ≡ Some (name.now, rows_of (found_of options.now))) }
+{
+    matches.subcommand_matches(name)
+}
+
+/// The path argument of this name.
+fn path_of<'a>(options: &ArgMatches<'a>, name: &str) -> &'a str
+    ensures { result.now ≡ path_in name.now (rows_of (found_of options.now)) }
+{
+    options.get_str(name).unwrap_or("")
+}
+
+/// The number of an option, or its default.
+fn number_of(options: &ArgMatches<'_>, name: &str, default: u64) -> u64
+    ensures { HasNumber (rows_of (found_of options.now)) name.now default result }
+{
+    given_number(options, name).unwrap_or(default)
+}
+
+/// The number of an option.
+fn given_number(options: &ArgMatches<'_>, name: &str) -> Option<u64>
+    ensures { ReadsNumber (one_of name.now (rows_of (found_of options.now))) result }
+{
+    options.get_one::<u64>(name)
+}
+
+/// Whether an option without a value is given.
+fn has_flag(options: &ArgMatches<'_>, name: &str) -> bool
+    ensures { HasFlag (rows_of (found_of options.now)) name.now result }
+{
+    options.get_flag(name)
+}
+
+/// The parameters in the options.
+fn params_of(options: &ArgMatches<'_>) -> Params
+    ensures { HasParams (rows_of (found_of options.now)) result }
+{
+    let default = Params::DEFAULT;
+    Params {
+        hops: number_of(options, "hops", default.hops),
+        peers: number_of(options, "peers", default.peers),
+        window: number_of(options, "window", default.window),
+        items: number_of(options, "items", default.items),
+        bytes: number_of(options, "bytes", default.bytes),
+        maxpacket: number_of(options, "maxpacket", default.maxpacket),
+        target: number_of(options, "target", default.target),
+        interval: number_of(options, "interval", default.interval),
+        payload: number_of(options, "payload", default.payload),
+    }
+}

@@ -1,0 +1,228 @@
+ghost use Rattle.std.specs.Prelude.{◌≡◌, true};
+ghost use Rattle.clap.specs.Words.{App, app_of, new_app, with_subcommand};
+ghost use Rattle.rly_daemon_args.specs.HelpersBuilt.{IsBuilt};
+ghost use Rattle.rly_daemon_args.specs.CommandLine.{audit_app, format_app, key_app, plan_app, play_app, rly_app};
+ghost use Rattle.rly_daemon_args.specs.CommandLine.{rly_top, serve_app, sim_app};
+
+use crate::arguments::{at, batch, flag, number, with_arg, with_option, with_params, with_path};
+use clap::Command;
+use std::alloc::{AllocError, Global};
+
+/// Notes in the help of `sim` and `play`.
+const LINES: &str = "Each line of standard input is one command, and gets one reply line:
+  take PEER NUMBER HOP STAMP PAYLOAD [LIMIT]
+                                       store a datagram; PAYLOAD is hexadecimal, or - for none
+  pick HOP NOW                         put the hop's next datagram in flight; some may expire or be dropped
+  done HOP NUMBER                      the next hop acknowledged the numbers up to this one
+  fetch HOP NUMBER                     print the payload in flight under this number
+  window HOP                           print the first number in flight, and the next one
+  show HOP                             print all counters of the hop
+Any other line gets `refused 16 line`. STAMP and NOW are microseconds of the hop's link clock.
+LIMIT is the maximum wait in the queue, in the same unit: a pick expires datagrams at the front of the
+queue that waited longer. 0 or no LIMIT = no limit.";
+
+/// Notes in the help of `format`.
+const FORMATTED: &str =
+    "Prints `formatted` and the size of the device in bytes: a 64-byte header plus the segments.
+The file's content is lost; a device with live datagrams is refused without `--force`.
+Values out of their limits are refused (`refused 21 badgeometry`) before the file is touched.";
+
+/// Notes in the help of `audit`.
+const AUDITED: &str =
+    "Prints a line for each hop, one for each peer, the count of accepted commands, and `balance ok`:
+each hop's taken datagrams wait, are in flight, were dropped, expired or were released, and the peers'
+last numbers add up to the number of datagrams taken. Locks the file, so it must be writable.";
+
+/// Notes in the help of `serve`.
+const SERVED: &str =
+    "Receives datagrams from the peers of the plan, and sends them to its hops while a contact is open.
+A datagram is acknowledged once it is durable on the device. SIGINT or SIGTERM may stop the program
+at any moment: no acknowledged datagram is lost, and the next start resumes. After a failed write or
+sync of the device it acknowledges nothing more, and exits with status 1.";
+
+/// Notes in the help of `key`.
+const KEYED: &str =
+    "Prints a new random key: 64 hexadecimal digits and a newline. A plan names the key's file, and both
+ends of a link have the same key. Only the owner may have permissions on the file, so create it under
+`umask 077`.";
+
+/// Notes in the help of `plan`.
+const PLANNED: &str =
+    "Prints the moment, the station, each peer, each hop and each route of the plan. For a hop it prints
+whether a contact is open at the moment, until when, and the total open time of its contacts in
+microseconds. If a plan is refused, standard error has the location of its first fault.";
+
+/// The help of a plan's path.
+const PLAN: &str =
+    "The contact plan, a TOML file: peers and hops, their addresses, contacts and routes";
+
+/// The help of the path of a device that exists.
+const MADE: &str = "The file of a device made by `format`";
+
+/// The whole command line: its commands, options and help texts.
+pub(crate) fn program<'a>(alloc: Global) -> Result<Command<'a>, AllocError>
+    ensures { IsBuilt rly_app result }
+{
+    let with_sim = with_command(Ok(top(alloc)), sim(alloc));
+    let with_format = with_command(with_sim, format(alloc));
+    let with_play = with_command(with_format, play(alloc));
+    let with_audit = with_command(with_play, audit(alloc));
+    let with_serve = with_command(with_audit, serve(alloc));
+    let with_key = with_command(with_serve, Ok(key(alloc)));
+    with_command(with_key, plan(alloc))
+}
+
+/// The program, without its commands.
+fn top<'a>(alloc: Global) -> Command<'a>
+    ensures { app_of result ≡ rly_top }
+{
+    Command::new(alloc, "rly")
+        .version("0.1.0")
+        .about("A store-and-forward datagram relay with CoDel")
+        .subcommand_required(true)
+        .arg_required_else_help(true)
+}
+
+fn sim<'a>(alloc: Global) -> Result<Command<'a>, AllocError>
+    ensures { IsBuilt sim_app result }
+{
+    let bare = command_with_help(
+        alloc,
+        "sim",
+        "Runs commands from standard input on a spool in memory",
+        LINES,
+    );
+    with_params(alloc, Ok(bare))
+}
+
+fn format<'a>(alloc: Global) -> Result<Command<'a>, AllocError>
+    ensures { IsBuilt format_app result }
+{
+    let bare = command_with_help(
+        alloc,
+        "format",
+        "Creates or extends a file, and makes a new device in it",
+        FORMATTED,
+    );
+    let with_file = with_path(
+        alloc,
+        Ok(bare),
+        "file",
+        "FILE",
+        "The file of the device; created if missing, never shortened",
+    );
+    let with_options = with_params(alloc, with_file);
+    let with_segments = with_option(
+        alloc,
+        with_options,
+        "segments",
+        "4",
+        "Segments of the device, 2 to 256",
+    );
+    let length = number(
+        alloc,
+        "length",
+        "Bytes per segment, below 2147483648; default: the minimum for the other options",
+    );
+    let with_length = with_arg(with_segments, length);
+    let force = flag(
+        alloc,
+        "force",
+        "Format even if datagrams are live; they are lost",
+    );
+    with_arg(with_length, force)
+}
+
+fn play<'a>(alloc: Global) -> Result<Command<'a>, AllocError>
+    ensures { IsBuilt play_app result }
+{
+    let bare = command_with_help(
+        alloc,
+        "play",
+        "Runs commands from standard input on the device in a file; replies once durable",
+        LINES,
+    );
+    let with_file = with_path(alloc, Ok(bare), "file", "FILE", MADE);
+    with_arg(with_file, batch(alloc))
+}
+
+fn audit<'a>(alloc: Global) -> Result<Command<'a>, AllocError>
+    ensures { IsBuilt audit_app result }
+{
+    let bare = command_with_help(
+        alloc,
+        "audit",
+        "Reports the content of the device in a file, without changing it",
+        AUDITED,
+    );
+    with_path(alloc, Ok(bare), "file", "FILE", MADE)
+}
+
+fn serve<'a>(alloc: Global) -> Result<Command<'a>, AllocError>
+    ensures { IsBuilt serve_app result }
+{
+    let bare = command_with_help(
+        alloc,
+        "serve",
+        "Relays datagrams between the neighbours of a plan, on the device in a file",
+        SERVED,
+    );
+    let with_file = with_path(alloc, Ok(bare), "file", "FILE", MADE);
+    let with_plan = with_path(alloc, with_file, "plan", "PLAN", PLAN);
+    let with_turns = with_option(
+        alloc,
+        with_plan,
+        "turns",
+        "0",
+        "Stop after N loop turns of each peer and hop (each waits at most about 10 ms); 0 = run until stopped",
+    );
+    with_option(
+        alloc,
+        with_turns,
+        "report",
+        "0",
+        "Seconds between reports on standard output: queues, CoDel, packets, device; 0 = off",
+    )
+}
+
+fn key<'a>(alloc: Global) -> Command<'a>
+    ensures { app_of result ≡ key_app }
+{
+    command_with_help(alloc, "key", "Prints a new key for a link", KEYED)
+}
+
+fn plan<'a>(alloc: Global) -> Result<Command<'a>, AllocError>
+    ensures { IsBuilt plan_app result }
+{
+    let bare = command_with_help(
+        alloc,
+        "plan",
+        "Prints a plan, with the state of its links at a moment",
+        PLANNED,
+    );
+    let with_file = with_path(alloc, Ok(bare), "plan", "PLAN", PLAN);
+    with_arg(with_file, at(alloc))
+}
+
+/// A command with its help texts.
+fn command_with_help<'a>(
+    alloc: Global,
+    name: &'a str,
+    about: &'a str,
+    behind: &'a str,
+) -> Command<'a>
+    ensures { app_of result ≡ new_app name.now }
+{
+    Command::new(alloc, name).about(about).after_help(behind)
+}
+
+/// Adds a subcommand. `Err`: out of memory.
+fn with_command<'a>(
+    command: Result<Command<'a>, AllocError>,
+    below: Result<Command<'a>, AllocError>,
+) -> Result<Command<'a>, AllocError>
+    ensures { (app found : App) → IsBuilt app command.entry → IsBuilt found below.entry → found.top.is_plain ≡ true
+        → IsBuilt (with_subcommand app found.top) result }
+{
+    command?.subcommand(below?)
+}

@@ -1,0 +1,100 @@
+use clap::error::ErrorKind;
+use rly_core::Params;
+use std::alloc::AllocError;
+use thiserror::Error;
+
+/// The request of a command line. Numbers are as given: their limits aren't checked yet.
+#[derive(Clone, Copy, PartialEq, Eq)]
+pub enum Settings<'a> {
+    /// Commands from standard input on a machine in memory.
+    Sim {
+        /// The parameters of the spool.
+        params: Params,
+    },
+    /// A new device in a file.
+    Format {
+        /// The path of the file.
+        file: &'a str,
+        /// The parameters of the spool.
+        params: Params,
+        /// Segments of the device.
+        segments: u64,
+        /// The length of each segment in bytes: `None` for the minimum.
+        length: Option<u64>,
+        /// Whether live datagrams on the device may be lost.
+        force: bool,
+    },
+    /// Commands from standard input on the device in a file.
+    Play {
+        /// The path of the file.
+        file: &'a str,
+        /// The number of lines per round, 1 to 64.
+        batch: u64,
+    },
+    /// A report on the device in a file.
+    Audit {
+        /// The path of the file.
+        file: &'a str,
+    },
+    /// A relay between the neighbours of a plan, on the device in a file.
+    Serve {
+        /// The path of the device's file.
+        file: &'a str,
+        /// The path of the plan's file.
+        plan: &'a str,
+        /// The number of turns of each worker: 0 = run until stopped.
+        turns: u64,
+        /// Seconds between two reports: 0 = off.
+        report: u64,
+    },
+    /// A new key of a link.
+    Key,
+    /// A plan with the state of its links at a moment.
+    Plan {
+        /// The path of the plan's file.
+        plan: &'a str,
+        /// The moment in microseconds since the Unix epoch, below 2^52: `None` for now.
+        at: Option<u64>,
+    },
+}
+
+/// The fault of a command line without settings.
+#[derive(Debug, Drop, Error)]
+pub enum SettingsFault {
+    /// A request for help or the version; displays as the answer.
+    #[error("{0}")]
+    Asked(clap::Error),
+    /// A bad command line; displays as the reason.
+    #[error("{0}")]
+    CommandLine(clap::Error),
+    /// A growth of memory was refused.
+    #[error("refused 14 memory")]
+    OutOfMemory,
+}
+
+impl From<AllocError> for SettingsFault {
+    ghost use Rattle.std.specs.Prelude.{◌≡◌};
+    ghost use Rattle.rly_daemon_args.specs.declared.given.SettingsFault.TheVariants as fault;
+
+    ghost from_gives = { λ _ told. told ≡ fault.OutOfMemory };
+
+    fn from(_refused: AllocError) -> SettingsFault {
+        SettingsFault::OutOfMemory
+    }
+}
+
+impl From<clap::Error> for SettingsFault {
+    ghost use Rattle.rly_daemon_args.specs.CommandLine.{IsReportedAs};
+
+    ghost from_gives = { λ error fault. IsReportedAs error fault };
+
+    fn from(error: clap::Error) -> SettingsFault {
+        if error.kind() == ErrorKind::OutOfMemory {
+            SettingsFault::OutOfMemory
+        } else if error.use_stderr() {
+            SettingsFault::CommandLine(error)
+        } else {
+            SettingsFault::Asked(error)
+        }
+    }
+}

@@ -1,0 +1,5 @@
+pub mod FileDisk
+pub mod FormatCommand
+pub mod NewKey
+pub mod PlanCommand
+pub mod Commands

@@ -1,0 +1,246 @@
+ghost use Rattle.std.specs.Prelude.{◌≡◌, ◌≤◌, ◌+◌, ◌↔◌, None, IfOk, OnOk};
+
+use rly_disk::{Counts, Disk, DiskFault};
+use rly_station::{ErrorLines, FailedCalls, FileFault, SystemWord};
+use std::alloc::Global;
+use std::fs::{File, Files, OpenOptions, TryLockError};
+use std::io;
+use std::io::{ErrorKind, Seek, SeekFrom};
+use std::os::fd::AsRawFd;
+use std::os::unix::fs::FileExt;
+use std::sync::Arc;
+
+/// A device in a file, locked (advisory) against other processes while it is open. The file may be a block device.
+///
+/// Nothing can be proved of a real file's bytes, so this disk is never honest: its contracts cover its size, its
+/// ranges and its counts. The disk model of bytes and crashes holds of it as far as the system keeps the promises
+/// of `pread`, `pwrite` and `fdatasync`.
+#[derive(Drop)]
+pub struct FileDisk {
+    file: File,
+    size: u64,
+    counts: Counts,
+    /// The system's error of the first failed call.
+    word: Option<SystemWord>,
+    /// Its failed reads, if they are logged.
+    read_failures: Option<FailedCalls>,
+    ghost word_is_told: { (word ≡ None) ↔ (counts.failures ≡ 0) },
+}
+
+impl FileDisk {
+    ghost use Rattle.rly_daemon_commands.specs.FileDisk.{file_state, first_fault, kept_word, one_if_failed};
+    ghost use Rattle.rly_station.specs.Warnings.{AreReadsLogged};
+
+    /// Opens the device in a file. Syncs the writes of earlier processes first, or returns an error; reads from
+    /// then on return the disk's bytes, not those of the page cache.
+    pub fn open<H: Files<File = File>>(files: &H, path: &str) -> Result<FileDisk, FileFault>
+        ensures calls { IfOk result (λ disk. (file_state disk).calls ≡ 0) }
+    {
+        prepare_file(OpenOptions::new().read(true).write(true).open(files, path)?)
+    }
+
+    /// The same, and creates the file if there is none.
+    pub fn make<H: Files<File = File>>(files: &H, path: &str) -> Result<FileDisk, FileFault>
+        ensures calls { IfOk result (λ disk. (file_state disk).calls ≡ 0) }
+    {
+        let opened = OpenOptions::new().read(true).write(true).open(files, path);
+        match opened {
+            Ok(file) => prepare_file(file),
+            Err(error) if error.kind() == ErrorKind::NotFound => create_file(files, path),
+            Err(error) => Err(FileFault::from(error)),
+        }
+    }
+
+    /// The same disk, which logs its failed reads on a station's lines.
+    pub fn with_warnings(mut self, lines: Arc<ErrorLines, Global>) -> FileDisk
+        ensures told { AreReadsLogged result.read_failures }
+        ensures same { result ≡ record self { read_failures = result.read_failures } }
+    {
+        self.read_failures = Some(FailedCalls::of_reads(lines));
+        self
+    }
+
+    /// Extends the file to the size of a device, durably, if it is shorter.
+    pub fn extend(&mut self, size: u64) -> Result<(), FileFault>
+        ensures size { OnOk result (size ≤ (file_state self.new).size) }
+        ensures same { self.new ≡ record self.old { size = self.new.size } }
+    {
+        if self.size < size {
+            self.file.set_len(size)?;
+            self.file.sync_all()?;
+            self.size = size;
+        }
+        Ok(())
+    }
+
+    /// The system's error of the first failed call.
+    pub fn fault(&self) -> Option<FileFault>
+        ensures first { result ≡ first_fault self.now }
+        ensures told { (result ≡ None) ↔ ((file_state self.now).failures ≡ 0) }
+    {
+        Some(FileFault::from(self.word?.0))
+    }
+
+    /// Stores the counts after a call, and the system's error if it is the first that failed.
+    fn note(&mut self, counts: Counts, outcome: &io::Result<()>)
+        requires { counts.failures ≡ self.old.counts.failures + one_if_failed outcome.now }
+        ensures word { self.new.word ≡ kept_word self.old.word outcome.now }
+        ensures counts { self.new.counts ≡ counts }
+        ensures size { self.new.size ≡ self.old.size }
+        ensures quiet { self.new.read_failures ≡ self.old.read_failures }
+    {
+        self.counts = counts;
+        if let (None, Err(error)) = (&self.word, outcome) {
+            self.word = Some(SystemWord(*error));
+        }
+    }
+}
+
+/// Creates a file, durably.
+fn create_file<H: Files<File = File>>(files: &H, path: &str) -> Result<FileDisk, FileFault>
+    ensures calls { IfOk result (λ disk. disk.counts.calls ≡ 0) }
+{
+    let file = OpenOptions::new()
+        .read(true)
+        .write(true)
+        .create(true)
+        .open(files, path)?;
+    let disk = prepare_file(file)?;
+    File::open(files, folder_of(path))?.sync_all()?;
+    Ok(disk)
+}
+
+/// The folder that a path's file is in.
+fn folder_of(path: &str) -> &str {
+    match path.rsplit_once('/') {
+        None => ".",
+        Some(("", _)) => "/",
+        Some((folder, _)) => folder,
+    }
+}
+
+/// Locks an open file, syncs it, drops its pages from the page cache, and reads its size. After a failed sync the
+/// page cache may have bytes that the disk doesn't have, and a later sync may succeed over them.
+fn prepare_file(file: File) -> Result<FileDisk, FileFault>
+    ensures calls { IfOk result (λ disk. disk.counts.calls ≡ 0) }
+{
+    // If a standard stream is closed, the file may have got its descriptor, and output for that stream would go
+    // into the device. A clone never gets such a descriptor.
+    let mut file = file.try_clone()?;
+    lock(&file)?;
+    file.sync_all()?;
+    forget(&file)?;
+    let size = file.seek(SeekFrom::End(0))?;
+    Ok(FileDisk {
+        file,
+        size,
+        counts: Counts::new(),
+        word: None,
+        read_failures: None,
+    })
+}
+
+/// Locks a file (advisory) against other processes.
+fn lock(file: &File) -> Result<(), FileFault> {
+    match file.try_lock() {
+        Ok(()) => Ok(()),
+        Err(TryLockError::WouldBlock) => {
+            let held = io::Error::new(ErrorKind::WouldBlock, "locked by another process");
+            Err(FileFault::of_lock(held))
+        }
+        Err(TryLockError::Error(error)) => Err(FileFault::of_lock(error)),
+    }
+}
+
+/// Drops the pages of a file from the page cache, once they are durable.
+fn forget(file: &File) -> io::Result<()> {
+    match libc::posix_fadvise(file.as_raw_fd(), 0, 0, libc::POSIX_FADV_DONTNEED) {
+        0 => Ok(()),
+        error => Err(io::Error::from_raw_os_error(error)),
+    }
+}
+
+impl Disk for FileDisk {
+    ghost use Rattle.std.specs.Prelude.{◌≡◌, ◌≤◌, ◌<◌, ◌+◌, ◌-◌, ◌^◌, ◌∷◌, [], OnErr, OnOk, is_ok, length, slice_range};
+    ghost use Rattle.rly_disk.specs.Trace.{Makes, Read, Sync, Write};
+    ghost use Rattle.rly_daemon_commands.specs.FileDisk.{file_calls_lead, file_consistent, file_state};
+    ghost use Rattle.rly_station.specs.Warnings.{HasCountedIf};
+
+    ghost state = { file_state };
+
+    ghost consistent = { λ disk honest. file_consistent disk honest };
+
+    ghost calls_lead = { λ disk. file_calls_lead disk };
+
+    fn size(&self) -> u64 {
+        self.size
+    }
+
+    fn read_at(&mut self, place: u64, buffer: &mut [u8]) -> Result<(), DiskFault>
+        requires { place + length buffer.old ≤ (file_state self.old).size }
+        ensures bytes { (file_state self.old).honest
+            → OnOk result (buffer.new ≡ slice_range (file_state self.old).seen place (place + length buffer.old)) }
+        ensures trace { Makes file_state (Read place (length buffer.old) ∷ []) (is_ok result) self.old self.new }
+        // Only a failed read is counted and logged.
+        ensures quiet { OnOk result (self.new.read_failures ≡ self.old.read_failures) }
+        ensures counted { OnErr result
+            ((self.old.counts.calls < 2 ^ 64 - 1) → HasCountedIf self.old.read_failures self.new.read_failures) }
+    {
+        if self.counts.is_spent() {
+            return Err(DiskFault);
+        }
+        let outcome = self.file.read_exact_at(buffer, place);
+        let mut counts = self.counts;
+        counts.count_read(outcome.is_err());
+        self.note(counts, &outcome);
+        if let (Some(read_failures), Err(error)) = (&mut self.read_failures, &outcome) {
+            read_failures.add(*error);
+        }
+        outcome.map_err(|_| DiskFault)
+    }
+
+    fn write_at(&mut self, place: u64, bytes: &[u8]) -> Result<(), DiskFault>
+        requires { place + length bytes.now ≤ (file_state self.old).size }
+        ensures trace { Makes file_state (Write place bytes.now ∷ []) (is_ok result) self.old self.new }
+        ensures quiet { self.new.read_failures ≡ self.old.read_failures }
+    {
+        if self.counts.is_spent() {
+            return Err(DiskFault);
+        }
+        let outcome = self.file.write_all_at(bytes, place);
+        let mut counts = self.counts;
+        counts.count_write(outcome.is_err());
+        self.note(counts, &outcome);
+        outcome.map_err(|_| DiskFault)
+    }
+
+    fn sync(&mut self) -> Result<(), DiskFault>
+        ensures trace { Makes file_state (Sync ∷ []) (is_ok result) self.old self.new }
+        ensures quiet { self.new.read_failures ≡ self.old.read_failures }
+    {
+        if self.counts.is_spent() {
+            return Err(DiskFault);
+        }
+        let outcome = self.file.sync_data();
+        let mut counts = self.counts;
+        counts.count_sync(outcome.is_err());
+        self.note(counts, &outcome);
+        outcome.map_err(|_| DiskFault)
+    }
+
+    fn failures(&self) -> u64 {
+        self.counts.failures
+    }
+
+    fn calls(&self) -> u64 {
+        self.counts.calls
+    }
+
+    fn syncs(&self) -> u64 {
+        self.counts.syncs
+    }
+
+    fn failed_reads(&self) -> u64 {
+        self.counts.failed_reads
+    }
+}

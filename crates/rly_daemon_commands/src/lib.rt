@@ -1,0 +1,23 @@
+//! The commands of `rly` that start no relay: `sim`, `format`, `play`, `audit`, `plan` and `key`.
+//! `specs/Commands.antt`, `PlanCommand.antt` and `NewKey.antt` define the result of each that
+//! succeeds, `specs/FormatCommand.antt` the check before a device is formatted. `FileDisk` is a
+//! device in a file, locked while open. The crate starts no thread and opens no socket. Caller:
+//! `rly_daemon`.
+#![tactic(auto)]
+
+mod command_fault;
+mod commands;
+mod file_disk;
+mod format_check;
+mod geometry;
+mod new_key;
+mod plan_command;
+
+pub use crate::command_fault::CommandFault;
+pub use crate::commands::{
+    open_journal, refusal_with_cause, run_audit, run_format, run_play, run_sim,
+};
+pub use crate::file_disk::FileDisk;
+pub use crate::format_check::{UseFault, check_unused};
+pub use crate::new_key::{NewKeyFault, write_key};
+pub use crate::plan_command::run_plan;

@@ -1,0 +1,3 @@
+pub mod Beginnings
+pub mod Counts
+pub mod Replies

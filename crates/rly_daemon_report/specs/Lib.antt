@@ -1,0 +1,4 @@
+pub mod Counts
+pub mod Hops
+pub mod ReportText
+pub mod CountedReport

@@ -1,0 +1,76 @@
+-- The text of a report (docs/DEFINITIONS.md, "Reports"): the moment, then each hop, each peer and the device.
+use Rattle.std.specs.Prelude.{ℕ, ◌-◌, ◌/◌, Bool, true, false, List, [], ◌∷◌, ◌++◌}
+use Rattle.std.specs.Prelude.{codes, Option, Some, None, Result, Ok, Err}
+use Rattle.std.specs.Fmt.{decimal}
+use Rattle.std.specs.List.{flat_map}
+use Rattle.rly_core.specs.Refusals.{refusal_line}
+use Rattle.rly_core.specs.declared.ids.HopId.{HopId}
+use Rattle.rly_core.specs.declared.refusal.Refusal.{Refusal}
+use Rattle.rly_machine.specs.declared.reply.HopStatus.{HopStatus}
+use Rattle.rly_daemon_report.specs.declared.peer_counts.PeerCounts.{PeerCounts}
+use Rattle.rly_daemon_report.specs.declared.report.DeviceReport.{DeviceReport}
+use Rattle.rly_daemon_report.specs.declared.report.HopReport.{HopReport}
+use Rattle.rly_daemon_report.specs.declared.report.PeerReport.{PeerReport}
+use Rattle.rly_daemon_reply.specs.Replies.{status_text}
+
+-- report MOMENT
+abbrev pub moment_line : ℕ → List ℕ
+moment_line moment = codes "report " ++ decimal moment ++ 10 ∷ []
+
+-- the answer to a hop's Show: its numbers, as `show` prints them, or the refusal
+abbrev pub answer_text : HopId → Result HopStatus Refusal → List ℕ
+answer_text hop (Ok status) = status_text hop status
+answer_text hop (Err refusal) = codes "hop " ++ decimal hop.0 ++ codes " " ++ refusal_line refusal
+
+-- the name of a contact's state
+abbrev pub state_text : Bool → List ℕ
+state_text true = codes "open"
+state_text false = codes "closed"
+
+-- the end of the state, if it has one
+abbrev pub until_text : Option ℕ → List ℕ
+until_text None = []
+until_text (Some change) = codes " until " ++ decimal change
+
+-- hop H .. contact open until MOMENT wrong N
+abbrev pub hop_line : HopReport → List ℕ
+hop_line h =
+    answer_text h.hop h.answer ++ codes " contact " ++ state_text h.is_open ++ until_text h.change
+    ++ codes " wrong " ++ decimal h.wrong ++ 10 ∷ []
+
+-- heard N custody N refused N malformed N
+unfoldable pub counts_text : PeerCounts → List ℕ
+counts_text c =
+    codes " heard " ++ decimal c.heard
+    ++ codes " custody " ++ decimal c.custody
+    ++ codes " refused " ++ decimal c.refused
+    ++ codes " malformed " ++ decimal c.malformed
+
+-- the whole seconds since a peer was last received from, if it was
+abbrev pub last_text : ℕ → Option ℕ → List ℕ
+last_text moment None = []
+last_text moment (Some heard) = codes " last " ++ decimal ((moment - heard) / 1000000)
+
+-- peer P .. wrong N last SECONDS
+abbrev pub peer_line : ℕ → PeerReport → List ℕ
+peer_line moment p =
+    codes "peer " ++ decimal p.peer.0 ++ counts_text p.counts ++ codes " wrong " ++ decimal p.wrong
+    ++ last_text moment p.counts.last ++ 10 ∷ []
+
+-- device seq N rounds N segments N
+abbrev pub device_line : DeviceReport → List ℕ
+device_line d =
+    codes "device seq " ++ decimal d.seq ++ codes " rounds " ++ decimal d.rounds
+    ++ codes " segments " ++ decimal d.segments ++ 10 ∷ []
+
+-- the hops and the peers
+abbrev pub hops_text : List HopReport → List ℕ
+hops_text hops = flat_map hop_line hops
+
+abbrev pub peers_text : ℕ → List PeerReport → List ℕ
+peers_text moment peers = flat_map (peer_line moment) peers
+
+-- the whole text
+abbrev pub text_for_report : ℕ → List HopReport → List PeerReport → DeviceReport → List ℕ
+text_for_report moment hops peers device =
+    moment_line moment ++ hops_text hops ++ peers_text moment peers ++ device_line device

@@ -1,0 +1,4 @@
+pub mod Endless
+pub mod Tallied
+pub mod ClockStart
+pub mod Below

@@ -1,0 +1,4 @@
+pub mod ServedRelay
+pub mod WallReportClock
+pub mod ReportedRelay
+pub mod Helpers

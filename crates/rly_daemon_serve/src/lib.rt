@@ -1,0 +1,13 @@
+//! Runs the relay of a station on a journal until its workers have ended. `serve` logs the startup
+//! lines, starts the workers at their posts, and returns their results (`specs/ServedRelay.antt`);
+//! `serve_reporting` also runs a reporter (`specs/ReportedRelay.antt`). Caller: `rly_daemon`,
+//! whose disk is a file.
+#![tactic(auto)]
+
+mod reported_relay;
+mod served_relay;
+mod wall_report_clock;
+
+pub use crate::reported_relay::{Reports, UdpReported, serve_reporting};
+pub use crate::served_relay::{UdpRelayed, serve};
+pub use crate::wall_report_clock::WallReportClock;

@@ -1,0 +1,315 @@
+//! The running relay with a reporter in parallel.
+
+ghost use Rattle.std.specs.Prelude.{◌≡◌, ◌≤◌, ◌+◌, ◌∷◌, ◌++◌, [], Err, IfOk, IfSome, OnOk, false, length, map, true};
+ghost use Rattle.std.specs.List.{list_all};
+ghost use Rattle.rly_core.specs.declared.refusal.Refusal.TheVariants as refusal;
+ghost use Rattle.rly_station.specs.declared.serve_fault.ServeFault.TheVariants as fault;
+ghost use Rattle.rly_station.specs.declared.file_fault.Cause.TheVariants as cause;
+ghost use Rattle.rly_station.specs.Keys.{AreKeysOf};
+ghost use Rattle.rly_daemon_serve.specs.Helpers.{post_below};
+ghost use Rattle.rly_daemon_serve.specs.ReportedRelay.{HasReports};
+ghost use Rattle.rly_daemon_serve.specs.ServedRelay.{FitsPlan, HasRunOver, LacksRoom};
+ghost use Rattle.rly_link_udp.specs.Duties.{duties, duty_over};
+ghost use Rattle.rly_station.specs.Workers.{workers_of};
+ghost use Rattle.rly_hop.specs.Spelling.{longest_message};
+ghost use Rattle.rly_plan.specs.ContactPlan.{peer_at};
+ghost use Rattle.rly_plan.specs.Sound.{IsSoundPlan};
+ghost use Rattle.rly_daemon_reporter.specs.TalliedLink.{link_below};
+ghost use Rattle.rly_threads.specs.Relay.{IsRelayEnd, has_run_out};
+ghost use Rattle.rly_line.specs.EndViews.{names_of};
+ghost use Rattle.rly_line.specs.ResponderView.{IsAnsweredBy};
+ghost use Rattle.rly_daemon_reporter.specs.ReporterAtSeat.{HasWatchedAt};
+
+use crate::served_relay::{disk_of, outcome_of, ready_posts, report_start};
+use crate::wall_report_clock::WallReportClock;
+use rly_core::PeerId;
+use rly_daemon_reporter::{Counters, ReportClock, Reported, TalliedLink, Tally, run_reported};
+use rly_disk::Disk;
+use rly_hop::StationId;
+use rly_journal::Journal;
+use rly_link::{Link, Post, Turn, Waker, Worker};
+use rly_link_auth::TaggedLink;
+use rly_link_udp::{NeighbourLink, SenderWaker, WallClock};
+use rly_plan::Plan;
+use rly_station::{ErrorLines, PlanKeys, ServeFault};
+use std::alloc::{AllocError, Global};
+use std::io::Write;
+use std::net::Net;
+use std::sync::{Arc, OnceLock, Wait};
+use std::thread::Threads;
+use std::time::Clock;
+
+/// The link of a neighbour whose counts are reported.
+type TalliedNeighbourLink<'a, H> = TalliedLink<NeighbourLink<&'a H>, &'a H>;
+
+/// A worker of the relay, its link, its clock and its waker.
+type TalliedPost<'a, H> = Post<TalliedNeighbourLink<'a, H>, WallClock<&'a H>, SenderWaker>;
+
+/// The results of a relay over UDP and its reporter.
+pub type UdpReported<'a, 'o, D, H> = Reported<
+    D,
+    TalliedNeighbourLink<'a, H>,
+    WallClock<&'a H>,
+    SenderWaker,
+    WallReportClock<'o, &'a H>,
+    Arc<Tally, Global>,
+>;
+
+/// The inputs of a station's reporter.
+#[derive(Drop)]
+pub struct Reports<'o> {
+    /// Seconds between two reports.
+    pub seconds: u64,
+    /// The counters of the workers.
+    pub tally: Arc<Tally, Global>,
+    /// The stop flag of the relay, set once it ends.
+    pub word: &'o OnceLock<bool>,
+}
+
+/// The same as `serve`, with a report to a writer at once, and one every `seconds` seconds. If the turns are
+/// limited, the reporter sleeps as often as a worker has turns, and ends then too. If the system has no thread for
+/// the reporter, it serves without reports, and returns `Worker` at its end.
+pub fn serve_reporting<
+    'a,
+    'o,
+    H: AllocGlobal + Net + Threads + Wait + Clock + Sync,
+    D: Disk + Drop,
+    W: Write + Send,
+    E: Write,
+>(
+    rt: &'a H,
+    journal: Journal<D>,
+    plan: &Plan,
+    keys: PlanKeys<'_>,
+    turns: u64,
+    size: u64,
+    lines: Arc<ErrorLines, Global>,
+    reports: Reports<'o>,
+    writer: &mut W,
+    errors: &mut E,
+) -> Result<UdpReported<'a, 'o, D, H>, (ServeFault, D)>
+    requires sound { IsSoundPlan plan.now }
+    requires keys { AreKeysOf plan.now keys }
+    ensures room { OnOk result (FitsPlan plan.now journal.state.params) }
+    ensures lacks { LacksRoom plan.now journal.state.params
+        → (result ≡ Err (fault.Refused refusal.BadGeometry cause.Plan, journal.disk))
+        × (writer.new ≡ writer.old) × (errors.new ≡ errors.old) }
+    // A relay without a limit of turns never ends well.
+    ensures ends { OnOk result (1 ≤ turns) }
+    // Each worker of the plan did at its post and its seat what the plan says of it, as far as its link tells, and the
+    // journal is what its flusher's rounds made of it. The reporter had a seat as well.
+    ensures ran { IfOk result
+        (λ r. HasRunOver D.state link_below (length (workers_of plan.now) + 1) plan.now keys.entry journal turns
+        r.relayed) }
+    // The journal isn't broken.
+    ensures whole { IfOk result (λ r. r.relayed.finished.journal.broken ≡ false) }
+    // The bytes written are a report at each due moment, of the answers to the reporter's seat.
+    ensures reported { IfOk result
+        (λ r. HasReports plan.now r.relayed.finished.last.value.line (W.contents writer.old) (W.contents writer.new)
+        r.watched.seat.value r.watched.end) }
+{
+    let (posts, is_told) = match tallied_start(
+        rt,
+        &journal,
+        plan,
+        keys,
+        turns,
+        size,
+        lines,
+        &reports.tally,
+        errors,
+    ) {
+        Ok(started) => started,
+        Err(fault) => return Err((fault, journal.into_disk())),
+    };
+    let Reports {
+        seconds,
+        tally,
+        word,
+    } = reports;
+    let pace = WallReportClock::new(rt, word, seconds, turns);
+    run_tallied(
+        rt,
+        rt.alloc(),
+        journal,
+        plan,
+        posts,
+        pace,
+        tally,
+        writer,
+        word,
+        is_told,
+    )
+}
+
+/// Runs a relay whose workers have these posts, with a reporter in parallel, and returns the results of both if
+/// they ended well.
+fn run_tallied<
+    R: Threads + Wait + Sync,
+    D: Disk + Drop,
+    L: Link + Drop + Send,
+    T: Turn + Drop + Send,
+    K: Waker + Drop + Send,
+    P: ReportClock + Drop + Send,
+    C: Counters + Drop + Send,
+    W: Write + Send,
+>(
+    rt: &R,
+    alloc: Global,
+    journal: Journal<D>,
+    plan: &Plan,
+    posts: Vec<Post<L, T, K>>,
+    pace: P,
+    counters: C,
+    writer: &mut W,
+    word: &OnceLock<bool>,
+    is_told: bool,
+) -> Result<Reported<D, L, T, K, P, C>, (ServeFault, D)>
+    requires count { (1 ≤ length posts.items) × (length posts.items ≤ 255) }
+    requires sound { IsSoundPlan plan.now }
+    ensures end { IfOk result (λ r. IsRelayEnd D.state L.heard L.sent T.told T.endless K.woken plan.now journal
+        (length posts.items + 1) posts.items r.relayed) }
+    ensures complete { IfOk result (λ r. list_all has_run_out r.relayed.ended.items ≡ true) }
+    ensures whole { IfOk result (λ r. r.relayed.finished.journal.broken ≡ false) }
+    ensures watched { IfOk result (λ r. HasWatchedAt P.told C.seen plan.now pace counters
+        r.relayed.finished.last.value.line.of (names_of r.relayed.finished.last.value.line.lines)
+        (W.contents writer.old) (W.contents writer.new) r.watched
+        × IsAnsweredBy r.relayed.finished.last.value.line r.watched.seat.value) }
+{
+    match run_reported(
+        rt, alloc, journal, plan, posts, pace, counters, writer, word,
+    ) {
+        Ok(reported) => {
+            let is_complete = reported.relayed.complete && reported.had_thread;
+            match outcome_of(reported.relayed.finished.broken, is_complete, is_told) {
+                Ok(()) => Ok(reported),
+                Err(fault) => Err((fault, disk_of(reported.relayed))),
+            }
+        }
+        Err(journal) => Err((AllocError.into(), journal.into_disk())),
+    }
+}
+
+/// The workers of a plan, whose links publish their counts to a tally, and whether the startup lines were written.
+fn tallied_start<'a, H: AllocGlobal + Net + Clock, D: Disk, E: Write>(
+    rt: &'a H,
+    journal: &Journal<D>,
+    plan: &Plan,
+    keys: PlanKeys<'_>,
+    turns: u64,
+    size: u64,
+    lines: Arc<ErrorLines, Global>,
+    tally: &Arc<Tally, Global>,
+    errors: &mut E,
+) -> Result<(Vec<TalliedPost<'a, H>>, bool), ServeFault>
+    requires { IsSoundPlan plan.now }
+    ensures room { OnOk result (FitsPlan plan.now journal.now.state.params) }
+    ensures lacks { LacksRoom plan.now journal.now.state.params
+        → (result ≡ Err (fault.Refused refusal.BadGeometry cause.Plan)) × (errors.new ≡ errors.old) }
+    ensures posts { IfOk result (λ started. map (duty_over link_below) started.0.items
+        ≡ duties plan.now keys.entry (longest_message journal.now.state.params.payload) turns) }
+{
+    let posts = ready_posts(rt, journal, plan, keys, turns, lines)?;
+    let is_told = report_start(journal, plan, size, &posts, errors).is_ok();
+    match tallied_posts(rt, plan, posts, tally) {
+        Ok(posts) => Ok((posts, is_told)),
+        Err(refused) => Err(refused.into()),
+    }
+}
+
+/// The same posts, whose links publish their counts to a tally.
+fn tallied_posts<'a, H: AllocGlobal + Clock, L: TaggedLink + Drop, T: Turn + Drop, K: Waker + Drop>(
+    rt: &'a H,
+    plan: &Plan,
+    posts: Vec<Post<L, T, K>>,
+    tally: &Arc<Tally, Global>,
+) -> Result<Vec<Post<TalliedLink<L, &'a H>, T, K>>, AllocError>
+    ensures { IfOk result (λ told. map post_below told.items ≡ posts.items) }
+{
+    let mut told = Vec::new(rt.alloc());
+    for post in posts {
+        add_tallied_post(rt, plan, post, tally, &mut told)?;
+    }
+    Ok(told)
+}
+
+/// One more post, whose link publishes its counts to a tally.
+fn add_tallied_post<'a, H: Clock, L: TaggedLink + Drop, T: Turn + Drop, K: Waker + Drop>(
+    clock: &'a H,
+    plan: &Plan,
+    post: Post<L, T, K>,
+    tally: &Arc<Tally, Global>,
+    told: &mut Vec<Post<TalliedLink<L, &'a H>, T, K>>,
+) -> Result<(), AllocError>
+    ensures { OnOk result (map post_below told.new.items ≡ map post_below told.old.items ++ post ∷ []) }
+{
+    let tally = Arc::try_clone(tally)?;
+    told.push(tallied_post(clock, plan, post, tally))?;
+    Ok(())
+}
+
+/// The same post, whose link publishes its counts to a tally.
+fn tallied_post<'a, H: Clock, L: TaggedLink, T: Turn, K: Waker>(
+    clock: &'a H,
+    plan: &Plan,
+    post: Post<L, T, K>,
+    tally: Arc<Tally, Global>,
+) -> Post<TalliedLink<L, &'a H>, T, K>
+    ensures { post_below result ≡ post }
+{
+    let Post {
+        worker,
+        link,
+        turn,
+        waker,
+    } = post;
+    let link = tallied_link(clock, plan, worker, link, tally);
+    Post {
+        worker,
+        link,
+        turn,
+        waker,
+    }
+}
+
+/// A worker's link, which publishes its counts to a tally.
+fn tallied_link<'a, H: Clock, L: TaggedLink>(
+    clock: &'a H,
+    plan: &Plan,
+    worker: Worker,
+    link: L,
+    tally: Arc<Tally, Global>,
+) -> TalliedLink<L, &'a H>
+    ensures { link_below result ≡ link }
+{
+    let hop = match worker {
+        Worker::Receiver(peer) => return peer_link(clock, plan, peer, link, tally),
+        Worker::Sender(hop) => hop,
+    };
+    TalliedLink::to_hop(link, hop, tally)
+}
+
+/// The link with a peer of a plan, which counts its packets.
+fn peer_link<'a, H: Clock, L: TaggedLink>(
+    clock: &'a H,
+    plan: &Plan,
+    peer: PeerId,
+    link: L,
+    tally: Arc<Tally, Global>,
+) -> TalliedLink<L, &'a H>
+    ensures { link_below result ≡ link }
+{
+    let own = StationId(plan.station());
+    let station = station_of(plan, peer);
+    TalliedLink::with_peer(link, own, station, peer, clock, tally)
+}
+
+/// A peer's station: 0 if the peer isn't in the plan.
+fn station_of(plan: &Plan, peer: PeerId) -> StationId
+    ensures { IfSome (peer_at plan.now peer) (λ neighbour. result.0 ≡ neighbour.station) }
+{
+    match plan.peer(peer) {
+        Some(neighbour) => StationId(neighbour.station),
+        None => StationId(0),
+    }
+}

@@ -1,0 +1,223 @@
+//! The running relay: its requirements on the device, its workers, and its outcome.
+
+ghost use Rattle.std.specs.Prelude.{◌≡◌, ◌≤◌, Err, IfErr, IfOk, IsOk, OnOk, false, length, map, true};
+ghost use Rattle.std.specs.List.{list_all};
+ghost use Rattle.rly_core.specs.declared.refusal.Refusal.TheVariants as refusal;
+ghost use Rattle.rly_hop.specs.Spelling.{longest_message};
+ghost use Rattle.rly_plan.specs.Sound.{IsSoundPlan};
+ghost use Rattle.rly_daemon_serve.specs.ServedRelay.{FitsPlan, HasRun, LacksRoom};
+ghost use Rattle.rly_link_udp.specs.Duties.{duties, duty_at};
+ghost use Rattle.rly_station.specs.Keys.{AreKeysOf};
+ghost use Rattle.rly_station.specs.declared.file_fault.Cause.TheVariants as cause;
+ghost use Rattle.rly_station.specs.declared.serve_fault.ServeFault.TheVariants as fault;
+ghost use Rattle.rly_threads.specs.Relay.{IsRelayEnd, has_run_out};
+
+use rly_audit::live_items;
+use rly_core::{Params, Refusal};
+use rly_disk::Disk;
+use rly_hop::longest_message;
+use rly_journal::Journal;
+use rly_link::{Link, Post, Turn, Waker};
+use rly_link_udp::{NeighbourLink, SenderWaker, UdpPost, WallClock, posts_of};
+use rly_plan::Plan;
+use rly_station::{Cause, ErrorLines, PlanKeys, ServeFault, WorkerName};
+use rly_threads::{Relayed, run_relay};
+use std::alloc::{AllocError, Global};
+use std::io;
+use std::io::Write;
+use std::net::Net;
+use std::sync::{Arc, Wait};
+use std::thread::Threads;
+use std::time::Clock;
+
+/// The result of a relay over UDP.
+pub type UdpRelayed<'a, D, H> = Relayed<D, NeighbourLink<&'a H>, WallClock<&'a H>, SenderWaker>;
+
+/// Runs the relay of a plan, with the keys of its links, on a journal until each worker had its turns (0: without
+/// limit), and returns its result. The workers log their warnings on the lines. When ready, it logs what it serves
+/// and the device's size, `size` bytes; if the log fails it still serves, and returns `Unreported` at its end.
+/// Once the journal is broken each worker ends at its next turn, and the error is `Broken`. If the system has no
+/// thread for one of them, the others end at once, and the error is `Worker`. An error hands the disk back.
+pub fn serve<'a, H: AllocGlobal + Net + Threads + Wait + Clock + Sync, D: Disk + Drop, E: Write>(
+    rt: &'a H,
+    journal: Journal<D>,
+    plan: &Plan,
+    keys: PlanKeys<'_>,
+    turns: u64,
+    size: u64,
+    lines: Arc<ErrorLines, Global>,
+    errors: &mut E,
+) -> Result<UdpRelayed<'a, D, H>, (ServeFault, D)>
+    requires sound { IsSoundPlan plan.now }
+    requires keys { AreKeysOf plan.now keys }
+    ensures room { OnOk result (FitsPlan plan.now journal.state.params) }
+    ensures lacks { LacksRoom plan.now journal.state.params
+        → (result ≡ Err (fault.Refused refusal.BadGeometry cause.Plan, journal.disk)) × (errors.new ≡ errors.old) }
+    // A relay without a limit of turns never ends well.
+    ensures ends { OnOk result (1 ≤ turns) }
+    // Each worker of the plan did at its post and its seat what the plan says of it, as far as its link tells, and the
+    // journal is what its flusher's rounds made of it.
+    ensures ran { IfOk result (λ relayed. HasRun D.state plan.now keys.entry journal turns relayed) }
+    // The journal isn't broken.
+    ensures whole { IfOk result (λ relayed. relayed.finished.journal.broken ≡ false) }
+{
+    let posts = match ready_posts(rt, &journal, plan, keys, turns, lines) {
+        Ok(posts) => posts,
+        Err(fault) => return Err((fault, journal.into_disk())),
+    };
+    let is_told = report_start(&journal, plan, size, &posts, errors).is_ok();
+    run_posts(rt, rt.alloc(), journal, plan, posts, is_told)
+}
+
+/// Runs a relay whose workers have these posts, and returns its result if it ended well.
+fn run_posts<
+    R: Threads + Wait + Sync,
+    D: Disk + Drop,
+    L: Link + Drop + Send,
+    T: Turn + Drop + Send,
+    K: Waker + Drop + Send,
+>(
+    rt: &R,
+    alloc: Global,
+    journal: Journal<D>,
+    plan: &Plan,
+    posts: Vec<Post<L, T, K>>,
+    is_told: bool,
+) -> Result<Relayed<D, L, T, K>, (ServeFault, D)>
+    requires count { (1 ≤ length posts.items) × (length posts.items ≤ 256) }
+    requires sound { IsSoundPlan plan.now }
+    ensures end { IfOk result (λ relayed. IsRelayEnd D.state L.heard L.sent T.told T.endless K.woken plan.now journal
+        (length posts.items) posts.items relayed) }
+    ensures complete { IfOk result (λ relayed. list_all has_run_out relayed.ended.items ≡ true) }
+    ensures whole { IfOk result (λ relayed. relayed.finished.journal.broken ≡ false) }
+{
+    match run_relay(rt, alloc, journal, plan, posts) {
+        Ok(relayed) => match outcome_of(relayed.finished.broken, relayed.complete, is_told) {
+            Ok(()) => Ok(relayed),
+            Err(fault) => Err((fault, disk_of(relayed))),
+        },
+        Err(journal) => Err((AllocError.into(), journal.into_disk())),
+    }
+}
+
+/// The disk of a relay that has ended.
+pub(crate) fn disk_of<D: Disk + Drop, L: Link + Drop, T: Turn + Drop, K: Waker + Drop>(
+    relayed: Relayed<D, L, T, K>,
+) -> D {
+    relayed.finished.journal.into_disk()
+}
+
+/// The workers of a plan for whose neighbours a journal has room, each with its link and its clock. A broken
+/// journal is refused.
+pub(crate) fn ready_posts<'a, H: AllocGlobal + Net + Clock, D: Disk>(
+    rt: &'a H,
+    journal: &Journal<D>,
+    plan: &Plan,
+    keys: PlanKeys<'_>,
+    turns: u64,
+    lines: Arc<ErrorLines, Global>,
+) -> Result<Vec<UdpPost<'a, H>>, ServeFault>
+    requires { IsSoundPlan plan.now }
+    ensures room { OnOk result (FitsPlan plan.now journal.now.state.params) }
+    ensures lacks { LacksRoom plan.now journal.now.state.params
+        → result ≡ Err (fault.Refused refusal.BadGeometry cause.Plan) }
+    ensures whole { OnOk result (journal.now.broken ≡ false) }
+    ensures posts { IfOk result (λ posts. map duty_at posts.items
+        ≡ duties plan.now keys.entry (longest_message journal.now.state.params.payload) turns) }
+{
+    let longest = longest_served(journal, plan)?;
+    posts_of(rt, plan, keys, longest, turns, lines)
+}
+
+/// The length in bytes of the longest message of a journal that has room for a plan's neighbours and isn't broken.
+fn longest_served<D: Disk>(journal: &Journal<D>, plan: &Plan) -> Result<usize, ServeFault>
+    ensures room { OnOk result (FitsPlan plan.now journal.now.state.params) }
+    ensures lacks { LacksRoom plan.now journal.now.state.params
+        → result ≡ Err (fault.Refused refusal.BadGeometry cause.Plan) }
+    ensures whole { OnOk result (journal.now.broken ≡ false) }
+    ensures longest { IfOk result (λ longest. longest ≡ longest_message journal.now.state.params.payload) }
+{
+    let params = journal.params();
+    check_room(plan, params)?;
+    if journal.is_broken() {
+        return Err(ServeFault::Refused(Refusal::Broken, Cause::NoCause));
+    }
+    Ok(longest_message(params.payload))
+}
+
+/// Logs what is served: the station, its neighbours, the used part of the device, and the links without a key.
+pub(crate) fn report_start<'a, H: Clock, D: Disk, E: Write>(
+    journal: &Journal<D>,
+    plan: &Plan,
+    size: u64,
+    posts: &[UdpPost<'a, H>],
+    errors: &mut E,
+) -> io::Result<()>
+    requires { journal.now.broken ≡ false }
+{
+    let station = plan.station();
+    let peers = plan.peer_count();
+    let hops = plan.hop_count();
+    let live = live_items(journal);
+    let items = journal.params().items;
+    writeln!(
+        errors,
+        "rly: serving station {station}, {peers} peers, {hops} hops, device {size} bytes, {live} of {items} live"
+    )?;
+    report_open(posts, errors)
+}
+
+/// Logs which links have no key, if any.
+fn report_open<'a, H: Clock, E: Write>(posts: &[UdpPost<'a, H>], errors: &mut E) -> io::Result<()> {
+    let mut before = "rly: links without a key:";
+    let mut is_any = false;
+    for post in posts {
+        if post.link.is_open() {
+            write!(errors, "{before} {}", WorkerName(post.worker))?;
+            before = ",";
+            is_any = true;
+        }
+    }
+    if is_any {
+        writeln!(errors)?;
+    }
+    Ok(())
+}
+
+/// Refuses a plan that has more peers or hops than the device.
+fn check_room(plan: &Plan, params: Params) -> Result<(), ServeFault>
+    ensures room { OnOk result (FitsPlan plan.now params) }
+    ensures lacks { IfErr result
+        (λ refused. (refused ≡ fault.Refused refusal.BadGeometry cause.Plan) × LacksRoom plan.now params) }
+{
+    let peers = plan.peer_count() as u64;
+    let hops = plan.hop_count() as u64;
+    if peers > params.peers || hops > params.hops {
+        return Err(ServeFault::Refused(Refusal::BadGeometry, Cause::Plan));
+    }
+    Ok(())
+}
+
+/// The outcome of a relay that was started. `is_told` is whether the startup lines were written.
+pub(crate) fn outcome_of(
+    is_broken: bool,
+    is_complete: bool,
+    is_told: bool,
+) -> Result<(), ServeFault>
+    ensures broken { is_broken ≡ true → result ≡ Err (fault.Refused refusal.Broken cause.NoCause) }
+    ensures worker { is_broken ≡ false → is_complete ≡ false → result ≡ Err fault.Worker }
+    ensures untold { is_broken ≡ false → is_complete ≡ true → is_told ≡ false → result ≡ Err fault.Unreported }
+    ensures well { is_broken ≡ false → is_complete ≡ true → is_told ≡ true → IsOk result }
+    ensures ok { OnOk result ((is_broken ≡ false) × (is_complete ≡ true) × (is_told ≡ true)) }
+{
+    if is_broken {
+        return Err(ServeFault::Refused(Refusal::Broken, Cause::NoCause));
+    }
+    if !is_complete {
+        return Err(ServeFault::Worker);
+    }
+    if !is_told {
+        return Err(ServeFault::Unreported);
+    }
+    Ok(())
+}

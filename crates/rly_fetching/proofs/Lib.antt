@@ -1,3 +1,0 @@
-pub mod TriedRows
-pub mod TriedReads
-pub mod Answered

@@ -1,5 +1,0 @@
-use Rattle.rly_fetching.proofs.TriedRows.{unread_tried}
-use Rattle.rly_fetching.proofs.payloads.read_payload.Goals as goal
-
-pub returns-in_default-clause-trace : goal.returns-in_default-clause-trace
-returns-in_default-clause-trace g c = λ limit. unread_tried g.D.Disk.state c.args.disk.now c.args.place c.in_default.not-Some

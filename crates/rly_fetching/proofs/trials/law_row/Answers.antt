@@ -1,5 +1,0 @@
-use Rattle.rly_fetching.proofs.TriedRows.{row_made, row_tried}
-use Rattle.rly_fetching.proofs.trials.law_row.Goals as goal
-
-pub returns : goal.returns
-returns g c calls whole = (row_tried g.D.Disk.state calls whole, row_made g.D.Disk.state calls whole)

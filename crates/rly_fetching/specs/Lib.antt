@@ -1,2 +1,0 @@
-pub mod Fetching
-pub mod Trials

@@ -1,5 +1,0 @@
-pub mod Framed
-pub mod Records
-pub mod Lying
-pub mod Brought
-pub mod Gathered

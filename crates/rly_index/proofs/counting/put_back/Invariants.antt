@@ -1,9 +1,0 @@
-use Rattle.std.proofs.Common.{◌≡◌, ◌+◌, ◌<◌, ℕ, drop, slice_index, take}
-use Rattle.rly_machine.specs.State.{bytes_of, hop_at, live_line}
-use Rattle.rly_places.specs.Places.{bytes_in}
-use Rattle.rly_index.proofs.counting.put_back.Given as goal
-
--- the items so far were added
-abbrev pub invariant-loop-index : goal.invariant-loop-index
-invariant-loop-index l = (t : ℕ) → t < l.geometry.segments
-    → slice_index l.live t ≡ slice_index l.fn.live t + bytes_of (bytes_in l.geometry t) (take l.index (take l.part.count (drop l.part.from (live_line (hop_at l.machine.state l.part.hop)))))

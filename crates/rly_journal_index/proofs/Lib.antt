@@ -1,0 +1,10 @@
+pub mod Each
+pub mod Lying
+pub mod Settled
+pub mod Stepping
+pub mod Images
+pub mod Opened
+pub mod Fetched
+pub mod Parts
+pub mod Listed
+pub mod Counters

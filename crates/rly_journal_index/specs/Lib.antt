@@ -1,0 +1,3 @@
+pub mod IndexRelation
+pub mod Index
+pub mod HelpersCounters

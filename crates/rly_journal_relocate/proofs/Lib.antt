@@ -1,0 +1,9 @@
+pub mod Moves
+pub mod MovedPayloads
+pub mod Relocations
+pub mod Rows
+pub mod Copies
+pub mod Blank
+pub mod Wholes
+pub mod Storable
+pub mod AsRead

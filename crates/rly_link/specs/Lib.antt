@@ -1,0 +1,2 @@
+pub mod LinkHistory
+pub mod Memory

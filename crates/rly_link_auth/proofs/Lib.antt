@@ -1,0 +1,4 @@
+mod Bits
+mod Lines
+pub mod Tags
+mod SealedHistory

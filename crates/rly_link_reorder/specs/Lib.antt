@@ -1,0 +1,3 @@
+pub mod ReorderBuffer
+pub mod ReorderRuns
+pub mod ReorderedLink

@@ -1,0 +1,59 @@
+-- The ghost history of a link with a reorder buffer (docs/DEFINITIONS.md, "What comes ahead of a gap").
+use Rattle.std.specs.Prelude.{ℕ, List, [], ◌∷◌, ◌++◌, Bool, is_some, if◌then◌else◌, Option, Some, None}
+use Rattle.rly_link_reorder.specs.ReorderBuffer.{ReorderView, BufferedData, reorder_after_custody, after_data}
+use Rattle.rly_link_reorder.specs.ReorderBuffer.{after_giving, due_data}
+use Rattle.rly_hop.specs.declared.message.StationId.{StationId}
+use Rattle.rly_hop.specs.FixedBytes.{custody_number, data_number}
+use Rattle.rly_link.specs.LinkHistory.{Hearing, new_hearing, message_in}
+
+-- the link below, this station and the peer, the reorder buffer, and the packets delivered
+pub record ReorderedView (L : Type 0) : Type 0 where
+  pub link : L
+  pub own : StationId
+  pub peer : StationId
+  pub early : ReorderView
+  pub given : List Hearing
+
+-- a link with a reorder buffer, before its first call
+abbrev pub new_reordered : {L : Type 0} → L → StationId → StationId → ReorderView → ReorderedView L
+new_reordered link own peer early = record { link = link; own = own; peer = peer; early = early; given = [] }
+
+-- It received the packets that it delivered, now or again. The packets sent and the count of failed calls are those
+-- of the link below.
+abbrev pub reordered_heard : {L : Type 0} → ReorderedView L → Option (List Hearing)
+reordered_heard a = Some a.given
+
+abbrev pub reordered_sent : {L : Type 0} → (L → Option (List (List ℕ))) → ReorderedView L → Option (List (List ℕ))
+reordered_sent sent a = sent a.link
+
+abbrev pub reordered_failures : {L : Type 0} → (L → ℕ) → ReorderedView L → ℕ
+reordered_failures failed a = failed a.link
+
+-- the reorder buffer after a packet with the Data of this number, if it has one
+abbrev pub after_data_if : ReorderView → List ℕ → Option ℕ → ReorderView
+after_data_if e packet None = e
+after_data_if e packet (Some number) = after_data e number packet
+
+-- the reorder buffer after a receive of the link below
+abbrev pub after_hearing : StationId → StationId → ReorderView → Option (List ℕ) → ReorderView
+after_hearing own peer e None = e
+after_hearing own peer e (Some packet) = after_data_if e packet (data_number peer own (message_in (Some packet)))
+
+-- the reorder buffer after a receive, into a buffer of this many bytes: one that was due, or one received below
+abbrev pub after_receive : {L : Type 0} → ReorderedView L → ℕ → Option (List ℕ) → ReorderView
+after_receive a room given =
+    if is_some (due_data a.early room) then after_giving a.early room else after_hearing a.own a.peer a.early given
+
+-- the reorder buffer after custody was sent, if it was
+abbrev pub after_custody_if : ReorderView → Option ℕ → ReorderView
+after_custody_if e None = e
+after_custody_if e (Some last) = reorder_after_custody e last
+
+-- the reorder buffer after a packet was sent
+abbrev pub after_sending : {L : Type 0} → ReorderedView L → List ℕ → ReorderView
+after_sending a packet = after_custody_if a.early (custody_number a.own a.peer (message_in (Some packet)))
+
+-- the packets delivered, with the stored packet that was due, if any
+abbrev pub given_again : Bool → Option BufferedData → List Hearing → List Hearing
+given_again waited None given = given
+given_again waited (Some k) given = given ++ new_hearing waited (Some k.packet) ∷ []

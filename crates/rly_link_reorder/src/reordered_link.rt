@@ -1,0 +1,188 @@
+//! A link with a reorder buffer.
+
+ghost use Rattle.std.specs.Prelude.{◌≡◌, ◌≤◌, ◌++◌, ◌∷◌, [], IfNone, IfOk, IfSome, OnErr, OnOk, Some, false, length};
+ghost use Rattle.std.specs.Prelude.{true};
+ghost use Rattle.std.specs.Option.{option_map};
+ghost use Rattle.rly_link_reorder.specs.ReorderedLink.{after_hearing, after_receive, after_sending, given_again};
+ghost use Rattle.rly_link_reorder.specs.ReorderedLink.{new_reordered};
+ghost use Rattle.rly_link_reorder.specs.ReorderBuffer.{after_giving, due_data};
+ghost use Rattle.rly_link.specs.LinkHistory.{FailuresRose, TellsMore, new_hearing, packet_in, packet_of};
+ghost use Rattle.rly_link.specs.Memory.{heard_of};
+
+use crate::reorder_buffer::ReorderBuffer;
+use http_server::Log;
+use rly_hop::{StationId, custody_number, data_number};
+use rly_link::{Link, LinkFault, PacketLog, bytes_in};
+use std::marker::Model;
+
+/// A link with a peer over another link, which delivers early Data again when their turn comes. Its model: the link
+/// below, both stations, the reorder buffer, and the packets delivered.
+#[derive(Drop)]
+pub struct ReorderedLink<L: Link> {
+    link: L,
+    own: StationId,
+    peer: StationId,
+    early: ReorderBuffer,
+    given: Log<bool, Option<PacketLog>>,
+}
+
+impl<L: Link> Model for ReorderedLink<L> {
+    ghost use Rattle.rly_link_reorder.specs.ReorderedLink.{ReorderedView};
+    ghost use Rattle.rly_link.specs.Memory.{heard_of};
+
+    ghost Value = { ReorderedView L };
+
+    ghost view = { λ a. record { link = a.link; own = a.own; peer = a.peer; early = a.early; given = heard_of a.given } };
+}
+
+impl<L: Link> ReorderedLink<L> {
+    /// This link with a peer, with a reorder buffer.
+    pub fn new(link: L, own: StationId, peer: StationId, early: ReorderBuffer) -> ReorderedLink<L>
+        ensures { result ≡ new_reordered link own peer early }
+    {
+        ReorderedLink {
+            link,
+            own,
+            peer,
+            early,
+            given: Log::new(),
+        }
+    }
+
+    /// The link below.
+    pub fn link(&self) -> &L
+        ensures { result.now ≡ self.now.link }
+    {
+        &self.link
+    }
+
+    /// Unwraps the link below.
+    pub fn into_link(self) -> L
+        ensures { result ≡ self.link }
+    {
+        self.link
+    }
+
+    /// Delivers the stored packet that is due, if there is one that fits.
+    fn give(&mut self, waited: bool, buffer: &mut [u8]) -> Option<usize>
+        ensures bound { IfSome result (λ count. count ≤ length buffer.new) }
+        ensures packet { packet_in result buffer.new
+            ≡ option_map (λ k. k.packet) (due_data self.old.early (length buffer.old)) }
+        ensures after { self.new ≡ record self.old {
+          early = after_giving self.old.early (length buffer.old);
+          given = given_again waited (due_data self.old.early (length buffer.old)) self.old.given;
+        } }
+    {
+        let count = self.early.give(buffer)?;
+        self.tell(waited, Some(count), buffer);
+        Some(count)
+    }
+
+    /// Records the packet of a receive, and whether it waited.
+    fn tell(&mut self, waited: bool, found: Option<usize>, buffer: &[u8])
+        requires { IfSome found (λ count. count ≤ length buffer.now) }
+        ensures { self.new
+            ≡ record self.old { given = self.old.given ++ new_hearing waited (packet_in found buffer.now) ∷ [] } }
+    {
+        let packet = match found {
+            Some(count) => Some(bytes_in(&buffer[..count])),
+            None => None,
+        };
+        self.given = self.given.and(&waited, &packet);
+    }
+
+    /// Handles and records a receive of the link below.
+    fn hear(&mut self, waited: bool, found: Option<usize>, buffer: &[u8])
+        requires { IfSome found (λ count. count ≤ length buffer.now) }
+        ensures { self.new ≡ record self.old {
+          early = after_hearing self.old.own self.old.peer self.old.early (packet_in found buffer.now);
+          given = self.old.given ++ new_hearing waited (packet_in found buffer.now) ∷ [];
+        } }
+    {
+        if let Some(count) = found {
+            self.keep(&buffer[..count]);
+        }
+        self.tell(waited, found, buffer);
+    }
+
+    /// Stores a packet, if it is an early Data of the peer.
+    fn keep(&mut self, packet: &[u8])
+        ensures { self.new
+            ≡ record self.old { early = after_hearing self.old.own self.old.peer self.old.early (Some packet.now) } }
+    {
+        if let Some(number) = data_number(packet, self.peer, self.own) {
+            self.early.hear(number, packet);
+        }
+    }
+}
+
+impl<L: Link> Link for ReorderedLink<L> {
+    ghost use Rattle.rly_link_reorder.specs.ReorderedLink.{reordered_failures, reordered_heard, reordered_sent};
+
+    ghost heard = { reordered_heard };
+
+    ghost sent = { reordered_sent L.sent };
+
+    ghost failed = { reordered_failures L.failed };
+
+    fn recv(&mut self, buffer: &mut [u8]) -> Result<Option<usize>, LinkFault>
+        ensures bound { IfOk result (λ found. IfSome found (λ count. count ≤ length buffer.new)) }
+        ensures heard { self.new.given ≡ self.old.given ++ new_hearing true (packet_of result buffer.new) ∷ [] }
+        ensures sent { L.sent self.new.link ≡ L.sent self.old.link }
+        ensures rise { OnErr result (FailuresRose (L.failed self.old.link) (L.failed self.new.link)) }
+        ensures no_failure { OnOk result (L.failed self.new.link ≡ L.failed self.old.link) }
+        // A stored packet that is due is delivered without a receive below. Otherwise the link below is asked once.
+        ensures again { IfSome (due_data self.old.early (length buffer.old))
+            (λ k. (packet_of result buffer.new ≡ Some k.packet) × (self.new.link ≡ self.old.link)) }
+        ensures asked { IfNone (due_data self.old.early (length buffer.old))
+            (TellsMore (L.heard self.old.link) (L.heard self.new.link)
+            (new_hearing true (packet_of result buffer.new) ∷ [])) }
+        ensures after { self.new.early ≡ after_receive self.old (length buffer.old) (packet_of result buffer.new) }
+    {
+        if let Some(count) = self.give(true, buffer) {
+            return Ok(Some(count));
+        }
+        let outcome = self.link.recv(buffer);
+        self.hear(true, outcome.ok().flatten(), buffer);
+        outcome
+    }
+
+    fn try_recv(&mut self, buffer: &mut [u8]) -> Result<Option<usize>, LinkFault>
+        ensures bound { IfOk result (λ found. IfSome found (λ count. count ≤ length buffer.new)) }
+        ensures heard { self.new.given ≡ self.old.given ++ new_hearing false (packet_of result buffer.new) ∷ [] }
+        ensures sent { L.sent self.new.link ≡ L.sent self.old.link }
+        ensures rise { OnErr result (FailuresRose (L.failed self.old.link) (L.failed self.new.link)) }
+        ensures no_failure { OnOk result (L.failed self.new.link ≡ L.failed self.old.link) }
+        ensures again { IfSome (due_data self.old.early (length buffer.old))
+            (λ k. (packet_of result buffer.new ≡ Some k.packet) × (self.new.link ≡ self.old.link)) }
+        ensures asked { IfNone (due_data self.old.early (length buffer.old))
+            (TellsMore (L.heard self.old.link) (L.heard self.new.link)
+            (new_hearing false (packet_of result buffer.new) ∷ [])) }
+        ensures after { self.new.early ≡ after_receive self.old (length buffer.old) (packet_of result buffer.new) }
+    {
+        if let Some(count) = self.give(false, buffer) {
+            return Ok(Some(count));
+        }
+        let outcome = self.link.try_recv(buffer);
+        self.hear(false, outcome.ok().flatten(), buffer);
+        outcome
+    }
+
+    fn send(&mut self, packet: &[u8]) -> Result<(), LinkFault>
+        ensures sent { TellsMore (L.sent self.old.link) (L.sent self.new.link) (packet.now ∷ []) }
+        ensures heard { self.new.given ≡ self.old.given }
+        ensures rise { OnErr result (FailuresRose (L.failed self.old.link) (L.failed self.new.link)) }
+        ensures no_failure { OnOk result (L.failed self.new.link ≡ L.failed self.old.link) }
+        ensures below { L.heard self.new.link ≡ L.heard self.old.link }
+        ensures after { self.new.early ≡ after_sending self.old packet.now }
+    {
+        if let Some(last) = custody_number(packet, self.own, self.peer) {
+            self.early.cover(last);
+        }
+        self.link.send(packet)
+    }
+
+    fn failures(&self) -> u64 {
+        self.link.failures()
+    }
+}

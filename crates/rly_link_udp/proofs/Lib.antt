@@ -1,0 +1,3 @@
+pub mod CountedPosts
+pub mod Turns
+pub mod Sending

@@ -1,0 +1,126 @@
+-- The link to a neighbour is Send if its clock is.
+use denote.RattleType.{RattleType}
+use denote.Param.Send.{AllSend, EachSend, IsSend, enum_send, recorded_send, sendable, struct_send, view_send}
+use denote.Struct.Declared.{Declared, shape}
+use denote.Struct.Field.{rows}
+use denote.Struct.Struct.{Struct}
+use denote.Enum.Declared as E
+use denote.Enum.Enum.{Enum}
+use Rattle.std.proofs.Crossing.{crosses}
+use Rattle.http_server.proofs.log.Log.TheSendSync.{the_send}
+use Rattle.std.specs.declared.time.Clock as Clock
+use Rattle.rly_link.specs.declared.link.Link as Link
+use Rattle.rly_link_reorder.specs.contracts.reordered_link.ReorderedLink as Ahead
+use Rattle.rly_link_reorder.specs.contracts.reordered_link.ReorderedLink.TheInside as AheadInside
+use Rattle.rly_link_reorder.specs.contracts.reorder_buffer.ReorderBuffer as Early
+use Rattle.rly_link_reorder.specs.contracts.reorder_buffer.ReorderBuffer.TheInside as EarlyInside
+use Rattle.rly_link_reorder.specs.contracts.reorder_slot.ReorderSlot as Place
+use Rattle.rly_link_reorder.specs.contracts.reorder_slot.ReorderSlot.TheInside as PlaceInside
+use Rattle.rly_link_auth.specs.contracts.key.Key as Key
+use Rattle.rly_link_auth.specs.contracts.key.Key.TheInside as KeyInside
+use Rattle.rly_link_auth.specs.contracts.sealed.Sealed as Sealed
+use Rattle.rly_link_auth.specs.contracts.sealed.Sealed.TheInside as Inside
+use Rattle.rly_link_auth.specs.contracts.station_link.StationLink as Station
+use Rattle.rly_link_auth.specs.contracts.station_link.StationLinkLink.TheImpl as StationImpl
+use Rattle.rly_station.specs.contracts.failed_calls.FailedCalls as FailedCalls
+use Rattle.rly_link_udp.specs.contracts.neighbour_link.NeighbourLink as NeighbourLink
+use Rattle.rly_link_udp.specs.contracts.udp_link.UdpLink as UdpLink
+use Rattle.rly_link_udp.specs.contracts.udp_link.UdpLinkLink.TheImpl as Impl
+use Rattle.rly_link_udp.specs.contracts.wrong_tags.WrongTags as WrongTags
+
+sends_send : IsSend FailedCalls.the_field.row
+sends_send = search (sendable, crosses, the_send) depth 30
+
+tags_send : IsSend WrongTags.the_field.row
+tags_send = search (sendable, crosses, the_send) depth 30
+
+udp_send : (C : RattleType) → IsSend C → IsSend (UdpLink.the_row C)
+udp_send C c =
+    let udp : Declared = UdpLink.the_type C in
+    let fields : AllSend (rows udp.parts) = (
+      search (sendable, crosses) depth 20,
+      (
+        search (sendable, crosses) depth 20,
+        (
+          search (sendable, c) depth 20,
+          (
+            search sendable depth 20,
+            (
+              search sendable depth 20,
+              (
+                search (sendable, crosses) depth 20,
+                (
+                  search sendable depth 20,
+                  (
+                    search (sendable, crosses, sends_send) depth 20,
+                    (
+                      search (sendable, crosses) depth 60,
+                      (
+                        search (sendable, crosses) depth 20,
+                        tt,
+                      ),
+                    ),
+                  ),
+                ),
+              ),
+            ),
+          ),
+        ),
+      ),
+    ) in
+    recorded_send (Struct (shape udp)) udp.D udp.to udp.to_one (struct_send (shape udp) fields)
+
+key_send : IsSend Key.the_row
+key_send =
+    let inside : Declared = KeyInside.the_type in
+    let fields : AllSend (rows inside.parts) = (search sendable depth 20, (search (sendable, crosses) depth 20, tt)) in
+    view_send KeyInside.the_row _ _ _ _ (recorded_send (Struct (shape inside)) inside.D inside.to inside.to_one (struct_send (shape inside) fields))
+
+sealed_send : (L : RattleType) (g : Link.Ghosts L.Denot) → IsSend L → IsSend (Sealed.the_row L g)
+sealed_send L g l =
+    let inside : Declared = Inside.the_type L g in
+    let fields : AllSend (rows inside.parts) = (l, (key_send, (search sendable depth 20, (search (sendable, the_send) depth 20, (search sendable depth 20, (search sendable depth 20, tt)))))) in
+    view_send (Inside.the_row L g) _ _ _ _ (recorded_send (Struct (shape inside)) inside.D inside.to inside.to_one (struct_send (shape inside) fields))
+
+station_send : (L : RattleType) (g : Link.Ghosts L.Denot) → IsSend L → IsSend (Station.the_row L g)
+station_send L g l =
+    let link : E.Declared = Station.the_type L g in
+    let each : EachSend (E.shape link).variants = ((l, tt), ((sealed_send L g l, tt), tt)) in
+    recorded_send (Enum (E.shape link)) link.D link.to link.to_one (enum_send (E.shape link) each)
+
+place_send : IsSend Place.the_row
+place_send =
+    let inside : Declared = PlaceInside.the_type in
+    let fields : AllSend (rows inside.parts) = (search (sendable, crosses) depth 20, (search (sendable, crosses) depth 20, tt)) in
+    view_send PlaceInside.the_row _ _ _ _ (recorded_send (Struct (shape inside)) inside.D inside.to inside.to_one (struct_send (shape inside) fields))
+
+early_send : IsSend Early.the_row
+early_send =
+    let inside : Declared = EarlyInside.the_type in
+    let fields : AllSend (rows inside.parts) = (search sendable depth 20, (search sendable depth 20, (search sendable depth 20, (search (sendable, crosses, place_send) depth 40, tt)))) in
+    view_send EarlyInside.the_row _ _ _ _ (recorded_send (Struct (shape inside)) inside.D inside.to inside.to_one (struct_send (shape inside) fields))
+
+ahead_send : (L : RattleType) (g : Link.Ghosts L.Denot) → IsSend L → IsSend (Ahead.the_row L g)
+ahead_send L g l =
+    let inside : Declared = AheadInside.the_type L g in
+    let fields : AllSend (rows inside.parts) = (
+      l,
+      (
+        search (sendable, crosses) depth 20,
+        (
+          search (sendable, crosses) depth 20,
+          (early_send, (search (sendable, the_send) depth 20, tt)),
+        ),
+      ),
+    ) in
+    view_send (AheadInside.the_row L g) _ _ _ _ (recorded_send (Struct (shape inside)) inside.D inside.to inside.to_one (struct_send (shape inside) fields))
+
+pub neighbour_send : (C : RattleType) (g : Clock.Ghosts C.Denot) → IsSend C → IsSend (NeighbourLink.the_row C g)
+neighbour_send C g c =
+    let link : Declared = NeighbourLink.the_type C g in
+    let socket = UdpLink.the_row C in
+    let told = Impl.ghosts C g Impl.no_dict Impl.no_dict in
+    let station = station_send socket told (udp_send C c) in
+    let ahead = ahead_send (Station.the_row socket told) (StationImpl.ghosts socket told StationImpl.no_dict) station in
+    let fields : AllSend (rows link.parts) = (ahead, (tags_send, tt)) in
+    recorded_send (Struct (shape link)) link.D link.to link.to_one (struct_send (shape link) fields)

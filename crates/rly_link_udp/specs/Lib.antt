@@ -1,0 +1,6 @@
+pub mod ClockWatch
+pub mod WallClock
+pub mod WrongTags
+pub mod Neighbour
+pub mod LinkReorder
+pub mod Duties

@@ -1,0 +1,119 @@
+//! The link to a neighbour with all its layers: logs failed sends and wrong tags, and has a
+//! reorder buffer.
+
+ghost use Rattle.std.specs.Prelude.{◌≡◌, ◌↔◌, IsTrue, IsNone};
+ghost use Rattle.rly_link_reorder.specs.ReorderedLink.{new_reordered};
+ghost use Rattle.rly_link_auth.specs.StationLink.{keys_over, station_link};
+
+use crate::link_reorder::LinkReorder;
+use crate::udp_link::UdpLink;
+use crate::wrong_tags::WrongTags;
+use rly_link::{Link, LinkFault, Worker};
+use rly_link_auth::{Key, StationLink, TaggedLink};
+use rly_link_reorder::ReorderedLink;
+use rly_station::Logger;
+use std::time::Clock;
+
+/// A link over UDP, sealed if it has a key, with a reorder buffer over the authenticated packets. It logs packets
+/// of a wrong tag; the socket's link logs failed sends.
+#[derive(Drop)]
+pub struct NeighbourLink<C: Clock + Drop> {
+    link: ReorderedLink<StationLink<UdpLink<C>>>,
+    wrong_tags: WrongTags,
+}
+
+impl<C: Clock + Drop> NeighbourLink<C> {
+    /// The link of a worker over a socket, sealed with a key if there is one.
+    pub(crate) fn new(
+        socket: UdpLink<C>,
+        key: Option<Key>,
+        worker: Worker,
+        teller: Logger,
+        keeping: LinkReorder,
+    ) -> NeighbourLink<C>
+        ensures link { result.link ≡ new_reordered (station_link socket key) keeping.own keeping.peer keeping.early }
+        ensures worker { result.wrong_tags.worker ≡ worker }
+    {
+        let LinkReorder { own, peer, early } = keeping;
+        NeighbourLink {
+            link: ReorderedLink::new(StationLink::new(socket, key), own, peer, early),
+            wrong_tags: WrongTags::new(worker, teller),
+        }
+    }
+
+    /// Whether it is unauthenticated.
+    pub fn is_open(&self) -> bool
+        ensures { IsTrue result ↔ IsNone (keys_over self.now.link.link) }
+    {
+        matches!(self.link.link(), StationLink::Open(_))
+    }
+}
+
+impl<C: Clock + Drop> TaggedLink for NeighbourLink<C> {
+    fn wrong_tags(&self) -> u64 {
+        self.link.link().wrong_tags()
+    }
+}
+
+impl<C: Clock + Drop> Link for NeighbourLink<C> {
+    ghost use Rattle.std.specs.Prelude.{◌≡◌, ◌≤◌, ◌∷◌, ◌++◌, [], false, true, IfOk, IfSome, OnErr, OnOk, length};
+    ghost use Rattle.rly_link_udp.specs.Neighbour.{neighbour_failed, neighbour_heard, neighbour_sent};
+    ghost use Rattle.rly_link_udp.specs.WrongTags.{tag_warnings};
+    ghost use Rattle.rly_station.specs.Warnings.{logged_warnings};
+    ghost use Rattle.rly_link_auth.specs.StationLink.{wrong_tags};
+    ghost use Rattle.rly_link.specs.LinkHistory.{FailuresRose, TellsMore, new_hearing, packet_of};
+
+    ghost heard = { λ l. neighbour_heard l };
+
+    ghost sent = { λ l. neighbour_sent l };
+
+    ghost failed = { λ l. neighbour_failed l };
+
+    fn recv(&mut self, buffer: &mut [u8]) -> Result<Option<usize>, LinkFault>
+        ensures bound { IfOk result (λ found. IfSome found (λ count. count ≤ length buffer.new)) }
+        ensures heard { TellsMore (neighbour_heard self.old) (neighbour_heard self.new)
+            (new_hearing true (packet_of result buffer.new) ∷ []) }
+        ensures sent { neighbour_sent self.new ≡ neighbour_sent self.old }
+        ensures rise { OnErr result (FailuresRose (neighbour_failed self.old) (neighbour_failed self.new)) }
+        ensures no_failure { OnOk result (neighbour_failed self.new ≡ neighbour_failed self.old) }
+        ensures whose { self.new.wrong_tags.worker ≡ self.old.wrong_tags.worker }
+        ensures told { logged_warnings self.new.wrong_tags.teller ≡ logged_warnings self.old.wrong_tags.teller
+            ++ tag_warnings self.old.wrong_tags.worker (wrong_tags self.old.link.link) (wrong_tags self.new.link.link) }
+    {
+        let before = self.link.link().wrong_tags();
+        let outcome = self.link.recv(buffer);
+        self.wrong_tags.note(before, self.link.link().wrong_tags());
+        outcome
+    }
+
+    fn try_recv(&mut self, buffer: &mut [u8]) -> Result<Option<usize>, LinkFault>
+        ensures bound { IfOk result (λ found. IfSome found (λ count. count ≤ length buffer.new)) }
+        ensures heard { TellsMore (neighbour_heard self.old) (neighbour_heard self.new)
+            (new_hearing false (packet_of result buffer.new) ∷ []) }
+        ensures sent { neighbour_sent self.new ≡ neighbour_sent self.old }
+        ensures rise { OnErr result (FailuresRose (neighbour_failed self.old) (neighbour_failed self.new)) }
+        ensures no_failure { OnOk result (neighbour_failed self.new ≡ neighbour_failed self.old) }
+        ensures whose { self.new.wrong_tags.worker ≡ self.old.wrong_tags.worker }
+        ensures told { logged_warnings self.new.wrong_tags.teller ≡ logged_warnings self.old.wrong_tags.teller
+            ++ tag_warnings self.old.wrong_tags.worker (wrong_tags self.old.link.link) (wrong_tags self.new.link.link) }
+    {
+        let before = self.link.link().wrong_tags();
+        let outcome = self.link.try_recv(buffer);
+        self.wrong_tags.note(before, self.link.link().wrong_tags());
+        outcome
+    }
+
+    fn send(&mut self, packet: &[u8]) -> Result<(), LinkFault>
+        ensures sent { TellsMore (neighbour_sent self.old) (neighbour_sent self.new) (packet.now ∷ []) }
+        ensures heard { neighbour_heard self.new ≡ neighbour_heard self.old }
+        ensures rise { OnErr result (FailuresRose (neighbour_failed self.old) (neighbour_failed self.new)) }
+        ensures no_failure { OnOk result (neighbour_failed self.new ≡ neighbour_failed self.old) }
+        ensures quiet { self.new.wrong_tags ≡ self.old.wrong_tags }
+    {
+        self.link.send(packet)
+    }
+
+    fn failures(&self) -> u64 {
+        self.link.failures()
+    }
+}

@@ -1,0 +1,196 @@
+//! The posts of a plan's workers: each with its UDP link, its clock and its waker.
+
+ghost use Rattle.std.specs.Option.{option_map};
+ghost use Rattle.std.specs.Prelude.{◌≡◌, IfOk, None, Some, is_some, map, option_and_then, option_copied};
+ghost use Rattle.rly_plan.specs.Sound.{IsSoundPlan};
+ghost use Rattle.rly_link_udp.specs.Duties.{addresses_of, duties, duty_at, duty_of, is_first};
+ghost use Rattle.rly_link_udp.specs.WallClock.{turns_left};
+ghost use Rattle.rly_station.specs.Warnings.{known_of, none_yet};
+
+use crate::clock_watch::ClockWatch;
+use crate::link_reorder::LinkReorder;
+use crate::neighbour_link::NeighbourLink;
+use crate::sender_waker::SenderWaker;
+use crate::signals::Signals;
+use crate::udp_link::UdpLink;
+use crate::wakeups::Wakeups;
+use crate::wall_clock::WallClock;
+use rly_core::HopId;
+use rly_link::{Post, Worker};
+use rly_plan::{Addresses, Plan};
+use rly_station::{
+    AddressFault, End, EndFault, ErrorLines, FailedCalls, KeyedWorker, PlanKeys, ServeFault,
+    SystemCall,
+};
+use std::alloc::{AllocError, Global};
+use std::net::Net;
+use std::sync::Arc;
+use std::time::Clock;
+
+/// A worker of the relay, its link, its clock and its waker.
+pub type UdpPost<'a, H> = Post<NeighbourLink<&'a H>, WallClock<&'a H>, SenderWaker>;
+
+/// The workers of a plan, each with its clock and its link, which buffers packets of at most `longest` bytes. They
+/// log their warnings on the lines.
+pub fn posts_of<'a, H: AllocGlobal + Net + Clock>(
+    rt: &'a H,
+    plan: &Plan,
+    keys: PlanKeys<'_>,
+    longest: usize,
+    turns: u64,
+    lines: Arc<ErrorLines, Global>,
+) -> Result<Vec<UdpPost<'a, H>>, ServeFault>
+    requires { IsSoundPlan plan.now }
+    ensures { IfOk result (λ posts. map duty_at posts.items ≡ duties plan.now keys.entry longest turns) }
+{
+    let signals = Signals::open(rt, rt.alloc(), plan, lines)?;
+    shared_posts(rt, plan, keys, longest, turns, &signals)
+}
+
+/// The same, for workers that share these signals.
+fn shared_posts<'a, H: AllocGlobal + Net + Clock>(
+    rt: &'a H,
+    plan: &Plan,
+    keys: PlanKeys<'_>,
+    longest: usize,
+    turns: u64,
+    signals: &Signals,
+) -> Result<Vec<UdpPost<'a, H>>, ServeFault>
+    ensures { IfOk result (λ posts. map duty_at posts.items ≡ duties plan.now keys.entry longest turns) }
+{
+    let mut posts = Vec::new(rt.alloc());
+    for link in keys.into_links() {
+        let post = post_of(rt, plan, link, longest, turns, signals)?;
+        if posts.push(post).is_err() {
+            return Err(AllocError.into());
+        }
+    }
+    Ok(posts)
+}
+
+/// A worker of a plan, with its link, its clock and its waker. The link is sealed if it has a key, and has a reorder
+/// buffer for a peer's packets of up to `longest` bytes. The waker has the wakers of all hops, and a sender's link has
+/// that of its own hop. Warnings go to the lines. A worker whose neighbour isn't in the plan has no link.
+fn post_of<'a, H: AllocGlobal + Net + Clock>(
+    rt: &'a H,
+    plan: &Plan,
+    link: KeyedWorker<'_>,
+    longest: usize,
+    turns: u64,
+    signals: &Signals,
+) -> Result<UdpPost<'a, H>, ServeFault>
+    ensures { IfOk result (λ post. duty_at post ≡ duty_of plan.now longest turns link.entry) }
+{
+    let KeyedWorker { worker, key } = link;
+    let Some(addresses) = addresses_of(plan, worker) else {
+        return Err(ServeFault::Worker);
+    };
+    let turn = turn_of(rt, worker, turns, signals)?;
+    let teller = signals.logger()?;
+    let socket = socket_of(rt, rt.alloc(), worker, addresses, signals)?;
+    let keeping = LinkReorder::new(rt.alloc(), plan, worker, longest)?;
+    let key = key.map(|key| key.into_key());
+    let link = NeighbourLink::new(socket, key, worker, teller, keeping);
+    let waker = SenderWaker::new(signals.wakeups()?);
+    Ok(Post {
+        worker,
+        link,
+        turn,
+        waker,
+    })
+}
+
+/// The socket of a worker's link, which logs failed sends. That of a sender has the waker of its hop.
+fn socket_of<'a, H: Net + Clock>(
+    rt: &'a H,
+    alloc: Global,
+    worker: Worker,
+    addresses: &Addresses,
+    signals: &Signals,
+) -> Result<UdpLink<&'a H>, ServeFault>
+    ensures addresses { IfOk result (λ link. link.addresses.value ≡ addresses.now) }
+    ensures sends { IfOk result
+        (λ link. option_map known_of link.failed_sends ≡ Some (none_yet (SystemCall.Send worker))) }
+{
+    let bell = wakeup_of(worker, signals)?;
+    let teller = signals.logger()?;
+    match UdpLink::open(rt, rt, addresses) {
+        Ok(socket) => {
+            let failed_sends = FailedCalls::new(SystemCall::Send(worker), teller);
+            Ok(socket.with_wakeup(bell).with_failed_sends(failed_sends))
+        }
+        Err(fault) => Err(fault_of_link(alloc, worker, addresses, fault)),
+    }
+}
+
+/// The waker of a sender's hop. A receiver's link has none.
+fn wakeup_of(
+    worker: Worker,
+    signals: &Signals,
+) -> Result<Option<(Arc<Wakeups, Global>, HopId)>, AllocError> {
+    match worker {
+        Worker::Receiver(_) => Ok(None),
+        Worker::Sender(hop) => Ok(Some((signals.wakeups()?, hop))),
+    }
+}
+
+/// The clock of a worker. That of the first peer's receiver also logs steps of the wall clock.
+fn turn_of<'a, H: Clock>(
+    rt: &'a H,
+    worker: Worker,
+    turns: u64,
+    signals: &Signals,
+) -> Result<WallClock<&'a H>, AllocError>
+    ensures left { IfOk result (λ turn. turn.left ≡ turns_left turns) }
+    ensures watch { IfOk result (λ turn. is_some turn.watch ≡ is_first worker) }
+    ensures unread { IfOk result (λ turn. option_and_then (λ w. w.before) turn.watch ≡ None) }
+{
+    if !is_first(worker) {
+        return Ok(WallClock::new(rt, turns));
+    }
+    let watch = ClockWatch::new(signals.logger()?);
+    Ok(WallClock::new(rt, turns).with_watch(watch))
+}
+
+/// Whether it is the receiver of the first peer.
+fn is_first(worker: Worker) -> bool
+    ensures { result ≡ is_first worker }
+{
+    match worker {
+        Worker::Receiver(peer) => peer.0 == 1,
+        Worker::Sender(_) => false,
+    }
+}
+
+/// The fault of a link that the system refused, with its worker and address.
+pub(crate) fn fault_of_link(
+    alloc: Global,
+    worker: Worker,
+    addresses: &Addresses,
+    fault: EndFault,
+) -> ServeFault {
+    let text = match fault.end {
+        End::Listen => addresses.listen(),
+        End::Remote => addresses.remote(),
+    };
+    match String::from_str(alloc, text) {
+        Ok(address) => ServeFault::Link(AddressFault {
+            worker,
+            end: fault.end,
+            address,
+            word: fault.word,
+        }),
+        Err(refused) => ServeFault::from(refused),
+    }
+}
+
+/// The addresses of a worker's link.
+fn addresses_of(plan: &Plan, worker: Worker) -> Option<&Addresses>
+    ensures { option_copied result ≡ addresses_of plan.now worker }
+{
+    let neighbour = match worker {
+        Worker::Receiver(peer) => plan.peer(peer),
+        Worker::Sender(hop) => plan.hop(hop),
+    };
+    Some(&neighbour?.addresses)
+}

@@ -1,2 +1,0 @@
-pub mod HelpersSettling
-pub mod Moving

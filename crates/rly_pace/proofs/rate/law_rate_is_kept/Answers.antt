@@ -1,5 +1,0 @@
-use Rattle.rly_pace.proofs.RateLaws.{burst-bound}
-use Rattle.rly_pace.proofs.rate.law_rate_is_kept.Goals as goal
-
-pub returns : goal.returns
-returns c b first later = burst-bound b first later

@@ -1,5 +1,0 @@
-mod StationCalls
-mod StationStanding
-mod StationSteps
-mod StationCrash
-mod PairRelays

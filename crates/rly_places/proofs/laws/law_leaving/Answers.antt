@@ -1,7 +1,0 @@
-use Rattle.rly_checkpoint.specs.Stored.{stored_length}
-use Rattle.rly_places.specs.Places.{bytes_in}
-use Rattle.rly_places.proofs.Leaving.{leaves_sum}
-use Rattle.rly_places.proofs.laws.law_leaving.Goals as goal
-
-pub returns : goal.returns
-returns c g segment s command accepted = leaves_sum stored_length (bytes_in g segment) s command accepted

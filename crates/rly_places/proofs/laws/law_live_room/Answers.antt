@@ -1,6 +1,0 @@
-use Rattle.rly_places.proofs.Rooms.{has_room_for}
-use Rattle.rly_places.proofs.laws.law_live_room.Goals as goal
-
-pub returns : goal.returns
-returns c g s current free victim within fits sound params free_is victim_is =
-    has_room_for g s current free victim within fits sound params free_is victim_is

@@ -1,4 +1,0 @@
-pub mod Leaving
-pub mod Placed
-pub mod Places
-pub mod Room

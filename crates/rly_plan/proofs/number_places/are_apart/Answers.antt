@@ -1,8 +1,0 @@
-use Rattle.std.proofs.Common.{◌∙◌, ap, is_none}
-use Rattle.rly_plan_draft.specs.Draft.{PlanText}
-use Rattle.rly_plan_draft.proofs.NoPlace.{told}
-use Rattle.rly_plan.proofs.PlaceTests.{none_overlapping}
-use Rattle.rly_plan.proofs.number_places.are_apart.Goals as goal
-
-pub returns : goal.returns
-returns c = told c.first_row.result c.is_none.result _ c.is_none.ensures (ap is_none c.first_row.ensures ∙ none_overlapping c.deref.result.now c.args.draft.now.hops (c.deref.ensures.value ∙ ap (λ (d : PlanText). d.hops) c.draft.view_is))

@@ -1,3 +1,0 @@
-pub mod DraftLemmas
-pub mod NoPlace
-pub mod KeyTests

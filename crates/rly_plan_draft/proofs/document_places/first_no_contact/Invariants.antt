@@ -1,7 +1,0 @@
-use Rattle.std.proofs.Common.{◌≡◌, ◌+◌, drop}
-use Rattle.toml.specs.View.{items_view}
-use Rattle.rly_plan_draft.specs.DocumentPlaces.{first_no_contact}
-use Rattle.rly_plan_draft.proofs.document_places.first_no_contact.Given as goal
-
-abbrev pub invariant-loop-index : goal.invariant-loop-index
-invariant-loop-index l = first_no_contact (l.index + 1) (items_view (drop l.index l.items.items)) ≡ first_no_contact 1 (items_view l.items.items)

@@ -1,7 +1,0 @@
-use Rattle.std.proofs.Common.{◌≡◌}
-use Rattle.toml.specs.View.{members_view}
-use Rattle.rly_plan_draft.specs.DocumentPlaces.{row_unknown}
-use Rattle.rly_plan_draft.proofs.document_places.row_unknown.Given as goal
-
-abbrev pub invariant-loop-key : goal.invariant-loop-key
-invariant-loop-key l = row_unknown l.row (members_view l.key-iterator) ≡ row_unknown l.row (members_view l.table.entries)

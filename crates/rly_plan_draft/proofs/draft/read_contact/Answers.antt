@@ -1,6 +1,0 @@
-use Rattle.std.proofs.Common.{◌∙◌}
-use Rattle.rly_plan_draft.proofs.DraftLemmas.{no_pair}
-use Rattle.rly_plan_draft.proofs.draft.read_contact.Goals as goal
-
-pub returns-then-len-ne2 : goal.returns-then-len-ne2
-returns-then-len-ne2 c = rw (← c.in-Some.ensures) (no_pair c.in-Some.pair.now.items (λ e. c.if-len-ne2.true (c.len.ensures ∙ (c.in-Some.pair.now.ok.0 ∙ e))))

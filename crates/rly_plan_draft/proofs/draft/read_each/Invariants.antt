@@ -1,9 +1,0 @@
-use Rattle.std.proofs.Common.{◌≡◌, drop}
-use Rattle.toml.specs.View.{items_view}
-use Rattle.rly_plan_draft.specs.Draft.{each_item}
-use Rattle.rly_plan_draft.proofs.DraftLemmas.{behind}
-use Rattle.rly_plan_draft.proofs.draft.read_each.Given as goal
-
--- what is read from here, after the items so far, is what the array reads as
-abbrev pub invariant-loop-value : goal.invariant-loop-value
-invariant-loop-value g l = behind l.items.items (each_item g.I.Item.shape (items_view (drop l.value-index l.value-items))) ≡ each_item g.I.Item.shape (items_view l.value-items)

@@ -1,6 +1,0 @@
--- What the map of a table finds is what its members have at the key.
-use Rattle.toml.proofs.Views.{table_get}
-use Rattle.rly_plan_draft.proofs.draft.value_at.Goals as goal
-
-pub returns : goal.returns
-returns c = table_get c.get.result c.args.key.now c.args.table.now.entries c.get.ensures.value

@@ -1,8 +1,0 @@
-use Rattle.std.proofs.Common.{◌≡◌, ◌+◌, ◌≤◌, drop, take}
-use Rattle.rly_plan_draft.specs.DocumentPlaces.{after_bytes, position_after}
-use Rattle.rly_plan_draft.proofs.position.position_after.Given as goal
-
-abbrev pub invariant-loop-byte : goal.invariant-loop-byte
-invariant-loop-byte l =
-    (after_bytes l.place (drop l.byte-index (take l.count l.text)) ≡ position_after (take l.count l.text))
-    × (l.place.line ≤ l.byte-index + 1) × (l.place.column ≤ l.byte-index + 1)

@@ -1,6 +1,0 @@
-pub mod Endpoints
-pub mod Keys
-pub mod Draft
-pub mod HelpersDraft
-pub mod PlaceText
-pub mod DocumentPlaces

@@ -1,0 +1,172 @@
+ghost use Rattle.std.specs.Prelude.{◌≡◌, ◌<◌, ◌++◌, IfOk, IfSome, OnOk, option_copied, string_bytes};
+ghost use Rattle.rly_plan_show.specs.PlanText.{at_line, hop_line, hop_lines, hops_text, neighbour_text, peer_line};
+ghost use Rattle.rly_plan_show.specs.PlanText.{peers_text, rate_text, route_line, routes_text, state_line, state_text};
+ghost use Rattle.rly_plan_show.specs.PlanText.{station_line, text_for_plan, times_line, until_text};
+
+use crate::utc::Utc;
+use rly_core::limits::MOMENT_LIMIT;
+use rly_plan::{Neighbour, NextHop, Plan, Route};
+use std::alloc::{AllocError, Global};
+
+/// The text of a plan at a moment, in microseconds since the Unix epoch. `Err`: out of memory.
+pub fn text_of(alloc: Global, plan: &Plan, moment: u64) -> Result<String, AllocError>
+    requires { moment < MOMENT_LIMIT }
+    ensures { IfOk result (λ text. string_bytes text ≡ text_for_plan plan.now moment) }
+{
+    let mut text = String::new(alloc);
+    write_head(&mut text, plan.station(), moment)?;
+    write_peers(&mut text, plan.peers())?;
+    write_hops(&mut text, plan.hops(), moment)?;
+    write_routes(&mut text, plan.routes())?;
+    Ok(text)
+}
+
+/// Appends the moment and the station.
+fn write_head(text: &mut String, station: u16, moment: u64) -> Result<(), AllocError>
+    requires { moment < MOMENT_LIMIT }
+    ensures { OnOk result (string_bytes text.new ≡ string_bytes text.old ++ at_line moment ++ station_line station) }
+{
+    writeln!(text, "at {} {moment}", Utc::of(moment))?;
+    writeln!(text, "station {station}")?;
+    Ok(())
+}
+
+/// Appends the peers' lines.
+fn write_peers(text: &mut String, peers: &[Neighbour]) -> Result<(), AllocError>
+    ensures { OnOk result (string_bytes text.new ≡ string_bytes text.old ++ peers_text peers.now) }
+{
+    let mut number: u64 = 0;
+    for peer in peers {
+        number += 1;
+        write_peer(text, number, peer)?;
+    }
+    Ok(())
+}
+
+/// Appends a peer's line.
+fn write_peer(text: &mut String, number: u64, peer: &Neighbour) -> Result<(), AllocError>
+    ensures { OnOk result (string_bytes text.new ≡ string_bytes text.old ++ peer_line (number, peer.now)) }
+{
+    write!(text, "peer {number}")?;
+    write_neighbour(text, peer)
+}
+
+/// Appends the fields of a neighbour.
+fn write_neighbour(text: &mut String, neighbour: &Neighbour) -> Result<(), AllocError>
+    ensures { OnOk result (string_bytes text.new ≡ string_bytes text.old ++ neighbour_text neighbour.now) }
+{
+    let station = neighbour.station;
+    let listen = neighbour.addresses.listen();
+    let remote = neighbour.addresses.remote();
+    write!(text, " station {station} listen {listen} remote {remote}")?;
+    if let Some(key) = &neighbour.key {
+        let path = key.path();
+        write!(text, " key {path}")?;
+    }
+    writeln!(text)?;
+    Ok(())
+}
+
+/// Appends the hops' lines.
+fn write_hops(text: &mut String, hops: &[NextHop], moment: u64) -> Result<(), AllocError>
+    requires { moment < MOMENT_LIMIT }
+    ensures { OnOk result (string_bytes text.new ≡ string_bytes text.old ++ hops_text moment hops.now) }
+{
+    let mut number: u64 = 0;
+    for hop in hops {
+        number += 1;
+        write_hop(text, number, hop, moment)?;
+    }
+    Ok(())
+}
+
+/// Appends a hop's lines.
+fn write_hop(text: &mut String, number: u64, hop: &NextHop, moment: u64) -> Result<(), AllocError>
+    requires { moment < MOMENT_LIMIT }
+    ensures { OnOk result (string_bytes text.new ≡ string_bytes text.old ++ hop_lines moment (number, hop.now)) }
+{
+    write_link(text, number, hop)?;
+    write_times(text, number, hop)?;
+    write_state(text, number, hop, moment)?;
+    Ok(())
+}
+
+/// Appends the neighbour that a hop leads to.
+fn write_link(text: &mut String, number: u64, hop: &NextHop) -> Result<(), AllocError>
+    ensures { OnOk result (string_bytes text.new ≡ string_bytes text.old ++ hop_line (number, hop.now)) }
+{
+    write!(text, "hop {number}")?;
+    write_neighbour(text, &hop.neighbour)
+}
+
+/// Appends a hop's timeout, rate, number of contacts, and open time.
+fn write_times(text: &mut String, number: u64, hop: &NextHop) -> Result<(), AllocError>
+    ensures { OnOk result (string_bytes text.new ≡ string_bytes text.old ++ times_line (number, hop.now)) }
+{
+    let resend = hop.resend;
+    let contacts = hop.contact_count();
+    let open = hop.open_time();
+    write!(text, "hop {number} resend {resend}")?;
+    write_rate(text, hop.rate)?;
+    writeln!(text, " contacts {contacts} open {open}")?;
+    Ok(())
+}
+
+/// Appends a hop's rate, if it has one.
+fn write_rate(text: &mut String, rate: Option<u32>) -> Result<(), AllocError>
+    ensures { OnOk result (string_bytes text.new ≡ string_bytes text.old ++ rate_text rate) }
+{
+    if let Some(rate) = rate {
+        write!(text, " rate {rate}")?;
+    }
+    Ok(())
+}
+
+/// Appends the state of a hop's link, and its next change.
+fn write_state(text: &mut String, number: u64, hop: &NextHop, moment: u64) -> Result<(), AllocError>
+    ensures { OnOk result (string_bytes text.new ≡ string_bytes text.old ++ state_line moment (number, hop.now)) }
+{
+    let state = state_text(hop.is_open(moment));
+    write!(text, "hop {number} contact {state}")?;
+    write_until(text, hop.next_change(moment))?;
+    writeln!(text)?;
+    Ok(())
+}
+
+/// The name of a link's state.
+fn state_text(is_open: bool) -> &'static str
+    ensures { result.now ≡ state_text is_open }
+{
+    if is_open { "open" } else { "closed" }
+}
+
+/// Appends the moment at which a link changes, if it does.
+fn write_until(text: &mut String, change: Option<u64>) -> Result<(), AllocError>
+    requires { IfSome change (λ moment. moment < MOMENT_LIMIT) }
+    ensures { OnOk result (string_bytes text.new ≡ string_bytes text.old ++ until_text change) }
+{
+    if let Some(moment) = change {
+        write!(text, " until {} {moment}", Utc::of(moment))?;
+    }
+    Ok(())
+}
+
+/// Appends the routes' lines.
+fn write_routes(text: &mut String, routes: &[Route]) -> Result<(), AllocError>
+    ensures { OnOk result (string_bytes text.new ≡ string_bytes text.old ++ routes_text routes.now) }
+{
+    for route in routes {
+        write_route(text, *route)?;
+    }
+    Ok(())
+}
+
+/// Appends a route's line.
+fn write_route(text: &mut String, route: Route) -> Result<(), AllocError>
+    ensures { OnOk result (string_bytes text.new ≡ string_bytes text.old ++ route_line route) }
+{
+    let destination = route.destination;
+    let hop = route.hop.0;
+    writeln!(text, "route {destination} hop {hop}")?;
+    Ok(())
+}

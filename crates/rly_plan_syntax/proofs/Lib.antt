@@ -1,0 +1,3 @@
+pub mod DraftLemmas
+pub mod NoPath
+pub mod KeyTests

@@ -1,0 +1,119 @@
+-- A document that has all its keys, with values of their types, as a draft: its numbers aren't checked yet.
+use Rattle.std.specs.Prelude.{ℕ, ℤ, pos, List, [], ◌∷◌, codes, Option, Some, None, option_and_then}
+use Rattle.toml.specs.Data.{Data, as_integer, as_str, as_array, as_table, Items, no_items, item, Members, get_member}
+use Rattle.rly_core.specs.declared.limits.TheConstants.{DEFAULT_RESEND}
+use Rattle.rly_plan_syntax.specs.declared.draft.ContactDraft.{ContactDraft}
+use Rattle.rly_plan_syntax.specs.declared.draft.NeighbourDraft.{NeighbourDraft}
+use Rattle.rly_plan_syntax.specs.declared.draft.RouteDraft.{RouteDraft}
+
+-- a [[hop]] table
+pub record HopText : Type 0 where
+  pub neighbour : NeighbourDraft
+  pub resend : ℤ
+  pub rate : Option ℤ
+  pub contacts : List ContactDraft
+
+-- a whole plan
+pub record PlanText : Type 0 where
+  pub station : ℤ
+  pub peers : List NeighbourDraft
+  pub hops : List HopText
+  pub routes : List RouteDraft
+
+infixl 10 ◌>>=◌
+abbrev ◌>>=◌ : {A B : Type 0} → Option A → (A → Option B) → Option B
+o >>= f = option_and_then f o
+
+-- the whole number, and the text, at a key
+abbrev pub integer_at : List ℕ → Members → Option ℤ
+integer_at key ms = get_member key ms >>= as_integer
+
+abbrev pub text_at : List ℕ → Members → Option (List ℕ)
+text_at key ms = get_member key ms >>= as_str
+
+-- each item of an array, each read by this function
+abbrev pub each_item : {A : Type 0} → (Data → Option A) → Items → Option (List A)
+each_item read no_items = Some []
+each_item read (item value rest) = do
+  x ← read value
+  xs ← each_item read rest
+  Some (x ∷ xs)
+
+-- the items of an array
+abbrev pub items_at : {A : Type 0} → (Data → Option A) → Option Data → Option (List A)
+items_at read found = found >>= as_array >>= each_item read
+
+-- two whole numbers
+abbrev pub pair_of : Items → Option ContactDraft
+pair_of (item begin (item end no_items)) = do
+  b ← as_integer begin
+  e ← as_integer end
+  Some (record { begin = b; end = e })
+pair_of _ = None
+
+abbrev pub contact_draft_of : Data → Option ContactDraft
+contact_draft_of value = as_array value >>= pair_of
+
+-- the key file (optional)
+abbrev pub key_at : Option Data → Option (Option (List ℕ))
+key_at None = Some None
+key_at (Some value) = do
+  path ← as_str value
+  Some (Some path)
+
+abbrev pub neighbour_of : Members → Option NeighbourDraft
+neighbour_of ms = do
+  id ← integer_at (codes "id") ms
+  station ← integer_at (codes "station") ms
+  listen ← text_at (codes "listen") ms
+  remote ← text_at (codes "remote") ms
+  key ← key_at (get_member (codes "key") ms)
+  Some (record { id = id; station = station; addresses = record { listen = listen; remote = remote }; key = key })
+
+abbrev pub peer_draft_of : Data → Option NeighbourDraft
+peer_draft_of value = as_table value >>= neighbour_of
+
+-- `resend` (optional)
+abbrev pub resend_at : Option Data → Option ℤ
+resend_at None = Some (pos DEFAULT_RESEND)
+resend_at (Some value) = as_integer value
+
+-- `rate` (optional): Some None if it is omitted
+abbrev pub rate_at : Option Data → Option (Option ℤ)
+rate_at None = Some None
+rate_at (Some value) = do
+  rate ← as_integer value
+  Some (Some rate)
+
+abbrev pub hop_in : Members → Option HopText
+hop_in ms = do
+  neighbour ← neighbour_of ms
+  resend ← resend_at (get_member (codes "resend") ms)
+  rate ← rate_at (get_member (codes "rate") ms)
+  contacts ← items_at contact_draft_of (get_member (codes "contacts") ms)
+  Some (record { neighbour = neighbour; resend = resend; rate = rate; contacts = contacts })
+
+abbrev pub hop_draft_of : Data → Option HopText
+hop_draft_of value = as_table value >>= hop_in
+
+abbrev pub route_in : Members → Option RouteDraft
+route_in ms = do
+  destination ← integer_at (codes "destination") ms
+  hop ← integer_at (codes "hop") ms
+  Some (record { destination = destination; hop = hop })
+
+abbrev pub route_draft_of : Data → Option RouteDraft
+route_draft_of value = as_table value >>= route_in
+
+-- `route` (optional)
+abbrev pub routes_at : Option Data → Option (List RouteDraft)
+routes_at None = Some []
+routes_at (Some value) = items_at route_draft_of (Some value)
+
+abbrev pub draft_of : Members → Option PlanText
+draft_of ms = do
+  station ← integer_at (codes "station") ms
+  peers ← items_at peer_draft_of (get_member (codes "peer") ms)
+  hops ← items_at hop_draft_of (get_member (codes "hop") ms)
+  routes ← routes_at (get_member (codes "route") ms)
+  Some (record { station = station; peers = peers; hops = hops; routes = routes })

@@ -1,0 +1,35 @@
+-- Helpers of private functions: the parts from which a neighbour, a hop and a contact are read.
+use Rattle.std.specs.Prelude.{ℕ, ℤ, List, codes, Option, Some, option_and_then}
+use Rattle.toml.specs.Data.{Data, as_integer, Members, get_member}
+use Rattle.rly_plan_syntax.specs.declared.draft.ContactDraft.{ContactDraft}
+use Rattle.rly_plan_syntax.specs.declared.draft.NeighbourDraft.{NeighbourDraft}
+use Rattle.rly_plan_syntax.specs.Draft.{contact_draft_of, items_at, rate_at, resend_at}
+
+infixl 10 ◌>>=◌
+abbrev ◌>>=◌ : {A B : Type 0} → Option A → (A → Option B) → Option B
+o >>= f = option_and_then f o
+
+abbrev pub contact_between : Data → Data → Option ContactDraft
+contact_between begin end = do
+  b ← as_integer begin
+  e ← as_integer end
+  Some (record { begin = b; end = e })
+
+-- a neighbour of these parts
+abbrev pub neighbour_text : ℤ → ℤ → List ℕ → List ℕ → Option (List ℕ) → NeighbourDraft
+neighbour_text id station listen remote key =
+    record { id = id; station = station; addresses = record { listen = listen; remote = remote }; key = key }
+
+-- the fields of a [[hop]] table apart from its neighbour
+abbrev pub LinkText : Type 0
+LinkText = ℤ × Option ℤ × List ContactDraft
+
+abbrev pub link_text : ℤ → Option ℤ → List ContactDraft → LinkText
+link_text resend rate contacts = (resend, rate, contacts)
+
+abbrev pub link_in : Members → Option LinkText
+link_in ms = do
+  resend ← resend_at (get_member (codes "resend") ms)
+  rate ← rate_at (get_member (codes "rate") ms)
+  contacts ← items_at contact_draft_of (get_member (codes "contacts") ms)
+  Some (link_text resend rate contacts)

@@ -1,0 +1,61 @@
+-- The keys of a plan, table by table (docs/FORMATS.md, "The plan").
+use Rattle.std.specs.Prelude.{ℕ, Bool, true, false, ◌&&◌, List, [], ◌∷◌, codes, if◌then◌else◌}
+use Rattle.std.specs.List.{list_any}
+use Rattle.std.specs.Str.{bytes_eq}
+use Rattle.toml.specs.Data.{Data, array, table, Items, no_items, item, Members, no_members, member}
+use Rattle.rly_plan_syntax.specs.declared.key_path.Row.{Row}
+use Rattle.rly_plan_syntax.specs.declared.key_path.Row.TheVariants.{Peer, Hop, Route}
+
+-- the keys of a table of each array
+abbrev pub keys_of : Row → List (List ℕ)
+keys_of Peer = codes "id" ∷ codes "station" ∷ codes "listen" ∷ codes "remote" ∷ codes "key" ∷ []
+keys_of Hop = codes "id" ∷ codes "station" ∷ codes "listen" ∷ codes "remote" ∷ codes "key"
+    ∷ codes "resend" ∷ codes "rate" ∷ codes "contacts" ∷ []
+keys_of Route = codes "destination" ∷ codes "hop" ∷ []
+
+abbrev pub has_key : Row → List ℕ → Bool
+has_key row key = list_any (bytes_eq key) (keys_of row)
+
+-- the value has no key at any depth
+abbrev mutual
+  pub has_no_key : Data → Bool
+  has_no_key (array items) = items_have_no_key items
+  has_no_key (table no_members) = true
+  has_no_key (table (member _ _ _)) = false
+  has_no_key _ = true
+
+  pub items_have_no_key : Items → Bool
+  items_have_no_key no_items = true
+  items_have_no_key (item value rest) = has_no_key value && items_have_no_key rest
+
+-- each key of the table is known, and its value has no keys
+abbrev pub row_is_known : Row → Members → Bool
+row_is_known row no_members = true
+row_is_known row (member key value rest) = (has_key row key && has_no_key value) && row_is_known row rest
+
+-- the same of an item that is a table
+abbrev pub item_is_known : Row → Data → Bool
+item_is_known row (table members) = row_is_known row members
+item_is_known row value = has_no_key value
+
+abbrev pub items_are_known : Row → Items → Bool
+items_are_known row no_items = true
+items_are_known row (item value rest) = item_is_known row value && items_are_known row rest
+
+abbrev pub rows_are_known : Row → Data → Bool
+rows_are_known row (array items) = items_are_known row items
+rows_are_known row value = has_no_key value
+
+-- a key of the plan itself, and those in its value
+abbrev pub is_known : List ℕ → Data → Bool
+is_known key value =
+    if bytes_eq key (codes "station") then has_no_key value
+    else if bytes_eq key (codes "peer") then rows_are_known Peer value
+    else if bytes_eq key (codes "hop") then rows_are_known Hop value
+    else if bytes_eq key (codes "route") then rows_are_known Route value
+    else false
+
+-- each key of the document is known in its table
+abbrev pub keys_are_known : Members → Bool
+keys_are_known no_members = true
+keys_are_known (member key value rest) = is_known key value && keys_are_known rest

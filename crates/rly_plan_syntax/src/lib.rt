@@ -1,0 +1,22 @@
+//! Syntax of a contact plan: reads the keys and values of its TOML text into a `PlanDraft`, whose
+//! numbers `rly_plan` then checks. `keys_are_known` and `PlanDraft::read` are passes 2 and 3
+//! (`specs/Keys.antt`, `specs/Draft.antt`; `docs/FORMATS.md`, "The plan"); `unknown_place`,
+//! `missing_place` and `position_after` locate the first fault (`specs/DocumentPaths.antt`) as a
+//! `KeyPath`, which displays as the path of a key. Caller: `rly_plan`.
+#![tactic(auto)]
+
+mod addresses;
+mod document_paths;
+mod draft;
+mod key_file;
+mod key_path;
+mod keys;
+mod position;
+
+pub use crate::addresses::Addresses;
+pub use crate::document_paths::{missing_place, unknown_place};
+pub use crate::draft::{ContactDraft, HopDraft, NeighbourDraft, PlanDraft, RouteDraft};
+pub use crate::key_file::KeyFile;
+pub use crate::key_path::{KeyPath, PlanKey, Position, Row, Spot};
+pub use crate::keys::keys_are_known;
+pub use crate::position::position_after;

@@ -1,9 +1,0 @@
-ghost use Rattle.std.specs.Prelude.{◌≡◌};
-
-/// The bytes of the buffer that a worker receives into. A packet that fills it is no message.
-pub const MAX_PACKET: usize = 8_300;
-
-/// The length has room for the longest message with its tag: 8,215 bytes and 16. That a worker's buffer has this length is tested.
-pub fn law_longest_packet()
-    ensures { MAX_PACKET ≡ 8300 }
-{}

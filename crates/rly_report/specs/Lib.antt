@@ -1,4 +1,0 @@
-pub mod Counts
-pub mod Hops
-pub mod ReportText
-pub mod Told

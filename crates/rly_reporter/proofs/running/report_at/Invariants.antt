@@ -1,6 +1,0 @@
-use Rattle.std.proofs.Common.{None, Some, false}
-use Rattle.rly_reporter.proofs.running.report_at.Given as goal
-
--- its seat at first; it has no turns, and nothing cuts it
-abbrev pub ghosts-report_as : goal.ghosts-report_as
-ghosts-report_as g a = record { first = None; endless = false; seat = Some a.seat; lock = 0 }

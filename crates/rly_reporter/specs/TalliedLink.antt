@@ -1,8 +1,0 @@
--- A neighbour's link whose counts go to the reporter.
-use Rattle.rly_reporter.specs.declared.tallied_link.TalliedLink.{TalliedLink}
-use Rattle.rly_reporter.specs.declared.tallied_link.TalliedLink.TheVariants.{Peer, Hop}
-
--- the link below
-abbrev pub link_below : {L C : Type 0} → TalliedLink L C → L
-link_below (Peer link peer tally) = link.link
-link_below (Hop link hop tally) = link

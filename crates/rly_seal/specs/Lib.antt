@@ -1,2 +1,0 @@
-pub mod SealedLink
-pub mod StationLink

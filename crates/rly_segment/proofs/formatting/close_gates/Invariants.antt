@@ -1,5 +1,0 @@
-use Rattle.rly_segment.proofs.Common.{closing_gates, Makes, true}
-use Rattle.rly_segment.proofs.formatting.close_gates.Given as goal
-
-abbrev pub invariant-loop-segment : goal.invariant-loop-segment
-invariant-loop-segment g l = Makes g.D.Disk.state (closing_gates l.geometry l.segment) true l.fn.disk l.disk

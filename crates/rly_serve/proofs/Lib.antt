@@ -1,4 +1,0 @@
-pub mod Endless
-pub mod Tallied
-pub mod PaceBegun
-pub mod Below

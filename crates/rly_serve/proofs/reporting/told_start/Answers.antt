@@ -1,7 +1,0 @@
-use Rattle.std.proofs.Common.{◌∙◌}
-use Rattle.rly_serve.proofs.Below.{duties_below}
-use Rattle.rly_serve.proofs.reporting.told_start.Goals as goal
-
--- its links are told of, and the workers are the same
-pub returns-in-Ok-clause-posts : goal.returns-in-Ok-clause-posts
-returns-in-Ok-clause-posts g c = duties_below _ _ c.in-Ok.ensures ∙ c.in_ok-posts.ensures.posts

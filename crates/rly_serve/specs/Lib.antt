@@ -1,4 +1,0 @@
-pub mod Serving
-pub mod WallPace
-pub mod Reporting
-pub mod Helpers

@@ -1,6 +1,0 @@
-use Rattle.rly_settings.specs.CommandLine.{plan_app}
-use Rattle.rly_settings.proofs.commands.plan.Goals as goal
-
-pub returns : goal.returns
-unfolding plan_app
-returns c = c.with_arg.ensures _ _ (c.with_path-with_file.ensures _ c.named-bare.ensures) c.at.ensures.rule

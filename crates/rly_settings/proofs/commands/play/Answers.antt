@@ -1,6 +1,0 @@
-use Rattle.rly_settings.specs.CommandLine.{play_app}
-use Rattle.rly_settings.proofs.commands.play.Goals as goal
-
-pub returns : goal.returns
-unfolding play_app
-returns c = c.with_arg.ensures _ _ (c.with_path-with_file.ensures _ c.named-bare.ensures) c.batch.ensures.rule

@@ -1,9 +1,0 @@
--- Helpers: what a command is while it is built. Nothing here is claimed.
-use Rattle.std.specs.Prelude.{◌≡◌, IfOk, Result}
-use Rattle.std.specs.declared.alloc.AllocError.{AllocError}
-use Rattle.clap.specs.Words.{App, app_of}
-use Rattle.clap.specs.declared.builder.command.Command.{Command}
-
--- where there was memory, the command is what the app says
-abbrev pub IsBuilt : App → Result Command AllocError → Type 0
-IsBuilt app built = IfOk built (λ command. app_of command ≡ app)

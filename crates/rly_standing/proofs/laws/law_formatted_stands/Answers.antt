@@ -1,5 +1,0 @@
-use Rattle.rly_standing.proofs.Growing.{formatted_stands}
-use Rattle.rly_standing.proofs.laws.law_formatted_stands.Goals as goal
-
-pub returns : goal.returns
-returns c g image is = formatted_stands g image is

@@ -1,5 +1,0 @@
-use Rattle.rly_standing.proofs.Once.{stands_for_one}
-use Rattle.rly_standing.proofs.laws.law_stands_for_one.Goals as goal
-
-pub returns : goal.returns
-returns c = stands_for_one

@@ -1,3 +1,0 @@
-mod Bits
-mod Lines
-pub mod Tags

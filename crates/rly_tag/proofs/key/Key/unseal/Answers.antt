@@ -1,6 +1,0 @@
-use Rattle.std.proofs.Common.{sym, arith}
-use Rattle.rly_tag.proofs.Tags.{unsealed-short}
-use Rattle.rly_tag.proofs.key.Key.unseal.Goals as goal
-
-pub returns-then-packet-lt-TAG_BYTES-clause-value : goal.returns-then-packet-lt-TAG_BYTES-clause-value
-returns-then-packet-lt-TAG_BYTES-clause-value c = sym (unsealed-short c.args.self.now c.args.packet.now (omega arith))

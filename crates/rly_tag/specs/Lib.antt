@@ -1,3 +1,0 @@
-pub mod Hmac
-pub mod Keys
-pub mod Seal

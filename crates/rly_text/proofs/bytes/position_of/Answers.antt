@@ -1,5 +1,0 @@
-use Rattle.rly_text.proofs.Places.{place_of}
-use Rattle.rly_text.proofs.bytes.position_of.Goals as goal
-
-pub returns-clause-place : goal.returns-clause-place
-returns-clause-place c = place_of c.args.byte c.args.bytes.now c.memchr.result c.memchr.ensures

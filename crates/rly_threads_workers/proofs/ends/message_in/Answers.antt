@@ -1,0 +1,19 @@
+use Rattle.std.proofs.Common.{◌≡◌, ◌∙◌, ap, sym, take}
+use Rattle.std.specs.Prelude.{Ok, Err}
+use Rattle.std.specs.Result.{result_ok}
+use Rattle.rly_hop.specs.Payloads.{message_bytes}
+use Rattle.rly_hop.specs.MessageReads.{message_or_fault}
+use Rattle.rly_hop.proofs.Messages.{reading-spelling}
+use Rattle.rly_threads_workers.proofs.Packets.{faulty}
+use Rattle.rly_threads_workers.proofs.ends.message_in.Goals as goal
+
+pub returns-in-Ok : goal.returns-in-Ok
+returns-in-Ok c =
+    let found = c.in-Ok.ensures.found in
+    let read : message_or_fault (take c.in-Some.count c.args.buffer.now) ≡ Ok (message_bytes c.in-Ok.message) = ap message_or_fault found.1 ∙ reading-spelling (message_bytes c.in-Ok.message) found.0 in
+    rw c.in-Some.is (sym (ap result_ok read))
+
+pub returns-in-Err : goal.returns-in-Err
+returns-in-Err c =
+    let read : message_or_fault (take c.in-Some.count c.args.buffer.now) ≡ Err c.in-Err.field-0 = faulty (take c.in-Some.count c.args.buffer.now) c.in-Err.field-0 c.in-Err.ensures.fault in
+    rw c.in-Some.is (sym (ap result_ok read))

@@ -1,0 +1,137 @@
+-- Helpers of private functions: the steps of a turn, and the replies of a desk in memory.
+use Rattle.std.specs.Prelude.{◌≡◌, ◌⊎◌, ◌≤◌, ◌<◌, ◌+◌, ◌^◌, ◌++◌, ℕ, Bool, List, [], fold, length, map, max}
+use Rattle.std.specs.Prelude.{vec_capacity, Option, Some, None, Ok, Err, ⊤}
+use Rattle.std.specs.List.{flat_map}
+use Rattle.rly_core.specs.declared.refusal.Refusal.TheVariants as refusal
+use Rattle.rly_core.specs.declared.refusal.Refusal.TheVariants.{OutOfMemory}
+use Rattle.rly_line.specs.declared.call_error.CallError.TheVariants as error
+use Rattle.rly_machine.specs.Ask.{ask_step}
+use Rattle.rly_machine.specs.declared.call.Answer.{Answer}
+use Rattle.rly_machine.specs.declared.command.Ask.{Ask}
+use Rattle.rly_machine.specs.declared.reply.Reply.{Reply}
+use Rattle.rly_machine.specs.declared.reply.Reply.TheVariants.{Refused}
+use Rattle.rly_machine.specs.State.{State}
+use Rattle.rly_hop.specs.declared.sending.event.OutAction.{OutAction}
+use Rattle.rly_hop.specs.declared.sending.event.OutAction.TheVariants as action
+use Rattle.rly_hop.specs.declared.sending.event.OutEvent.{OutEvent}
+use Rattle.rly_hop.specs.declared.sending.event.OutEvent.TheVariants as event
+use Rattle.rly_hop.specs.Receiver.{Receiver}
+use Rattle.rly_hop.specs.Sender.{Sender}
+use Rattle.rly_threads_workers.specs.declared.receiver.Takes.{Takes}
+use Rattle.rly_threads_workers.specs.declared.sender.Calls.{Calls}
+use Rattle.rly_link.specs.declared.turn.Go.{Go}
+use Rattle.rly_link.specs.declared.turn.Point.TheVariants as point
+use Rattle.rly_link.specs.declared.turn.Worker.TheVariants as worker
+use Rattle.rly_threads_workers.specs.DeskExchanges.{CallOutcome}
+use Rattle.rly_link.specs.LinkHistory.{TellsMore}
+use Rattle.rly_threads_workers.specs.ReceiverTurns.{Arrival, ReceiverWorker, WaitingCore, NamedTake, answers_sent}
+use Rattle.rly_threads_workers.specs.ReceiverTurns.{hearings, receives, core_of_take, wakings, takes_of_packet}
+use Rattle.rly_threads_workers.specs.declared.sender_state.SenderState.{SenderState}
+use Rattle.rly_threads_workers.specs.SenderTurns.{event_in, after_out_event, sender_on_packet, sender_sent}
+use Rattle.rly_threads_workers.specs.Runs.{EndsView}
+use Rattle.rly_threads_workers.specs.Turns.{Done, hearings_from, receives_of}
+
+-- a worker did this, and has this state now
+pub record Did {C : Type 0} (old new : EndsView) (core : C) (d : Done C) : Type 0 where
+  pub left : core ≡ d.core
+  pub heard : TellsMore old.heard new.heard d.heard
+  pub sent : TellsMore old.sent new.sent d.sent
+  pub asked : TellsMore old.asked new.asked d.asked
+  pub handed : TellsMore old.handed new.handed d.handed
+  pub woken : TellsMore old.woken new.woken d.woken
+
+-- the machine's reply and the state after it, unless memory was refused
+abbrev pub IsReply : State (List ℕ) → State (List ℕ) → Ask → Reply → Type 0
+IsReply old new ask reply =
+    ((reply ≡ Refused OutOfMemory) × (new ≡ old)) ⊎ ((reply ≡ (ask_step old ask).1) × (new ≡ (ask_step old ask).0))
+
+-- there is room for the Takes of a turn, or room is made for its one Take
+abbrev pub HasTakeRoom : Takes → Type 0
+HasTakeRoom t =
+    ((t.most ≡ 64) × (64 ≤ vec_capacity t.asks) × (64 ≤ vec_capacity t.waiting) × (64 ≤ vec_capacity t.answers))
+    ⊎ (t.most ≡ 1)
+
+-- there is no Take
+pub record HasNoTake (t : Takes) : Type 0 where
+  pub room : HasTakeRoom t
+  pub asks : t.asks.items ≡ []
+  pub waiting : t.waiting.items ≡ []
+  pub answers : t.answers.items ≡ []
+
+-- as many cores wait as there are Takes, none is answered, and there is room for their answers
+pub record AreWaiting (t : Takes) : Type 0 where
+  pub room : HasTakeRoom t
+  pub each : length t.waiting.items ≡ length t.asks.items
+  pub none : t.answers.items ≡ []
+  pub place : length t.asks.items ≤ vec_capacity t.answers
+
+-- these Takes were added
+pub record HasMore (old new : Takes) (more : List NamedTake) : Type 0 where
+  pub most : new.most ≡ old.most
+  pub asks : new.asks.items ≡ old.asks.items ++ map (λ x. x.ask) more
+  pub waits : new.waiting.items ≡ old.waiting.items ++ map core_of_take more
+
+-- a worker received these packets, and then perhaps none, and holds the Takes that follow
+pub record HasGathered (w : ReceiverWorker) (r : Receiver) (old new : EndsView) (before after : Takes)
+    (packets : List Arrival)
+    (quiet : Go) : Type 0 where
+  pub few : length packets ≤ before.most
+  pub heard : TellsMore old.heard new.heard (hearings (receives before.most packets quiet))
+  pub handed : TellsMore old.handed new.handed
+      (map (λ x. (worker.Receiver w.peer, point.Heard, x.1)) (receives before.most packets quiet))
+  pub same : new ≡ record old { heard = new.heard; handed = new.handed }
+  pub more : HasMore before after (flat_map (takes_of_packet w before.most r) packets)
+
+-- a worker woke senders and sent messages as its cores request on these answers
+pub record HasAnswered (r : Receiver) (old new : EndsView) (taken : List (WaitingCore × Answer)) : Type 0 where
+  pub sent : TellsMore old.sent new.sent (answers_sent r taken)
+  pub woken : TellsMore old.woken new.woken (wakings taken)
+  pub same : new ≡ record old { sent = new.sent; woken = new.woken }
+
+-- a worker received these packets, and then perhaps none, and passed the messages in them to its core
+pub record HasHeard (waits : Bool) (old new : EndsView) (before after : Sender) (packets : List (List ℕ)) : Type 0 where
+  pub few : length packets ≤ 64
+  pub heard : TellsMore old.heard new.heard (hearings_from waits (receives_of packets))
+  pub same : new ≡ record old { heard = new.heard }
+  pub core : after ≡ fold sender_on_packet before packets
+
+-- there is room for 64 calls together, or calls are made one at a time; and there is none
+pub record IsIdle (c : Calls) : Type 0 where
+  pub room : ((c.most ≡ 64) × (64 ≤ vec_capacity c.asks) × (64 ≤ vec_capacity c.answers)) ⊎ (c.most ≡ 1)
+  pub asks : c.asks.items ≡ []
+  pub answers : c.answers.items ≡ []
+
+-- an action is a call
+abbrev pub IsCall : OutAction (List ℕ) → Type 0
+IsCall action.AskWindow = ⊤
+IsCall (action.Release number) = ⊤
+IsCall (action.Fetch number) = ⊤
+IsCall action.Pick = ⊤
+IsCall (action.Send m) = ⊥
+
+-- this many numbers from that of a Fetch on fit the code's numbers
+abbrev pub HasNumbers : OutAction (List ℕ) → ℕ → Type 0
+HasNumbers action.AskWindow count = ⊤
+HasNumbers (action.Release number) count = ⊤
+HasNumbers (action.Fetch number) count = number + count < 2 ^ 64
+HasNumbers action.Pick count = ⊤
+HasNumbers (action.Send m) count = ⊤
+
+-- the core's event for one call
+abbrev pub call_event : OutAction (List ℕ) → CallOutcome → OutEvent (List ℕ)
+call_event named (Ok a) = event_in named a.reply
+call_event named (Err (error.Closed back)) = event.Refused refusal.Closed
+call_event named (Err error.Lost) = event.Refused refusal.Lost
+
+-- a core got these events at a moment, in order, and the messages that it then requested were sent
+pub record HasHandedEvent (in_contact : Bool) (at : ℕ) (old new : EndsView) (before after : SenderState)
+    (told : List (OutEvent (List ℕ))) : Type 0 where
+  pub core : after ≡ fold (after_out_event in_contact at) before told
+  pub sent : TellsMore old.sent new.sent (sender_sent in_contact at before told)
+  pub same : new ≡ record old { sent = new.sent }
+
+-- the greater of two numbers, of those that are present
+abbrev pub greater : Option ℕ → Option ℕ → Option ℕ
+greater None number = number
+greater (Some last) None = Some last
+greater (Some last) (Some number) = Some (max last number)

@@ -1,0 +1,11 @@
+pub mod Turns
+pub mod ReceiverTurns
+pub mod SenderState
+pub mod SenderTurns
+pub mod Runs
+pub mod Memory
+pub mod HelpersTurns
+pub mod RateKept
+pub mod Strays
+pub mod DeskExchanges
+pub mod WorkerRuns

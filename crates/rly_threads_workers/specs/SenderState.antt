@@ -1,0 +1,114 @@
+-- The state of a sending worker between turns, and its changes in a turn before its core acts: when the core gets a
+-- Timeout, and how many messages may be sent (docs/PROTOCOL.md, "The pace of a hop").
+use Rattle.std.specs.Prelude.{ℕ, min, List, [], ◌∷◌, ◌++◌, length, Bool, true, false, nat_le}
+use Rattle.std.specs.Prelude.{if◌then◌else◌, Option, Some, None, option_map}
+use Rattle.rly_core.specs.declared.params.Params.{Params}
+use Rattle.rly_hop.specs.declared.message.Message.TheVariants as message
+use Rattle.rly_hop.specs.declared.sending.event.OutAction.{OutAction}
+use Rattle.rly_hop.specs.declared.sending.event.OutAction.TheVariants as action
+use Rattle.rly_hop.specs.declared.sending.event.OutEvent.{OutEvent}
+use Rattle.rly_hop.specs.declared.sending.event.OutEvent.TheVariants as event
+use Rattle.rly_hop.specs.Sender.{Sender}
+use Rattle.rly_hop.specs.Sending.{sending_step, turn_action}
+use Rattle.rly_hop.specs.Spelling.{longest_message}
+use Rattle.rly_hop_pacing.specs.declared.rate.Bucket.{Bucket}
+use Rattle.rly_hop_pacing.specs.CongestionControl.{ControlView, first_control, is_opening, is_timeout, on_contact}
+use Rattle.rly_hop_pacing.specs.CongestionControl.{on_covered}
+use Rattle.rly_hop_pacing.specs.CongestionControl.{on_sent, on_time, on_window, open_room}
+use Rattle.rly_hop_pacing.specs.Rates.{first_bucket, may_take, on_take, room_at}
+use Rattle.rly_threads_workers.specs.declared.sender_state.SenderState.{SenderState}
+
+-- Initially, in a spool with these parameters: one Pick may be submitted, no contact is open, and the burst is
+-- available. `resend` in milliseconds, the rate in bytes a second; the longest message has the spool's longest
+-- payload and a limit.
+abbrev pub first_sender_state : Sender → Params → ℕ → Option ℕ → SenderState
+first_sender_state core params resend rate = record {
+  core = core;
+  moved = false;
+  picks = 1;
+  pace = first_control resend params.window;
+  rate = option_map (λ r. first_bucket r (longest_message params.payload) 0) rate;
+}
+
+-- the core gets a Timeout, if this is true
+abbrev pub set_back_if : Bool → SenderState → SenderState
+set_back_if false p = p
+set_back_if true p = record p { core = (sending_step p.core event.Timeout).0 }
+
+-- Whether a contact is open at the turn's time: as it opens, the core gets a Timeout.
+abbrev pub with_contact : SenderState → Bool → SenderState
+with_contact p is_open = set_back_if (is_opening p.pace is_open) (record p { pace = on_contact p.pace is_open })
+
+-- custody of all up to the number to release was received
+abbrev pub control_on_release : ControlView → Option (OutAction (List ℕ)) → ℕ → ControlView
+control_on_release pace (Some (action.Release number)) at = on_covered pace number at
+control_on_release pace (Some action.AskWindow) at = pace
+control_on_release pace (Some (action.Fetch number)) at = pace
+control_on_release pace (Some action.Pick) at = pace
+control_on_release pace (Some (action.Send m)) at = pace
+control_on_release pace None at = pace
+
+-- the congestion control gets the received custody
+abbrev pub with_custody : SenderState → ℕ → SenderState
+with_custody p at = record p { pace = control_on_release p.pace (turn_action p.core false) at }
+
+-- the core gets a Timeout, if one is due
+abbrev pub with_time : SenderState → ℕ → SenderState
+with_time p at = set_back_if (is_timeout p.pace at) (record p { pace = on_time p.pace at })
+
+-- the state at the turn's time, after the packets were received: a custody precedes a Timeout
+abbrev pub on_moment : SenderState → Bool → ℕ → SenderState
+on_moment p is_open at = with_time (with_custody (with_contact p is_open) at) at
+
+-- of this many messages, how many the rate permits at a moment, if each may be the longest
+abbrev pub rate_room : Option Bucket → ℕ → ℕ → ℕ
+rate_room None at room = room
+rate_room (Some b) at room = min room (room_at b at)
+
+-- How many messages may be sent at a moment. If none may, the core's turn counts its contact as closed.
+abbrev pub send_room : SenderState → ℕ → ℕ
+send_room p at = rate_room p.rate at (open_room p.pace)
+
+-- whether the rate permits a packet at a moment, and the bucket after it
+abbrev pub lets_out : Option Bucket → List ℕ → ℕ → Bool
+lets_out None packet at = true
+lets_out (Some b) packet at = may_take b (length packet) at
+
+abbrev pub rate_after_one : Option Bucket → List ℕ → ℕ → Option Bucket
+rate_after_one None packet at = None
+rate_after_one (Some b) packet at = Some (on_take b (length packet) at)
+
+-- of the packets to send at a moment, those that the rate permits, in order, and the bucket after them
+abbrev pub let_out : Option Bucket → List (List ℕ) → ℕ → List (List ℕ)
+let_out rate [] at = []
+let_out rate (packet ∷ others) at =
+    (if lets_out rate packet at then packet ∷ [] else []) ++ let_out (rate_after_one rate packet at) others at
+
+abbrev pub rate_after : Option Bucket → List (List ℕ) → ℕ → Option Bucket
+rate_after rate [] at = rate
+rate_after rate (packet ∷ others) at = rate_after (rate_after_one rate packet at) others at
+
+-- the core gets the window
+abbrev pub control_on_answer : ControlView → OutEvent (List ℕ) → ControlView
+control_on_answer pace (event.WindowIs first next) = if nat_le first next then on_window pace first next else pace
+control_on_answer pace (event.Picked number) = pace
+control_on_answer pace (event.Fetched number limit payload) = pace
+control_on_answer pace event.Nothing = pace
+control_on_answer pace event.Released = pace
+control_on_answer pace event.Unchanged = pace
+control_on_answer pace (event.Refused refusal) = pace
+control_on_answer pace event.Other = pace
+control_on_answer pace event.Timeout = pace
+control_on_answer pace (event.Heard m) = pace
+control_on_answer pace (event.Turn in_contact) = pace
+
+-- the core sends a number, whether or not the packet leaves
+abbrev pub control_on_named : ControlView → Option (OutAction (List ℕ)) → ℕ → ControlView
+control_on_named pace (Some (action.Send (message.Data from to number limit payload))) at = on_sent pace number at
+control_on_named pace (Some (action.Send (message.Custody from to last))) at = pace
+control_on_named pace (Some (action.Send (message.Refused from to number refusal))) at = pace
+control_on_named pace (Some action.AskWindow) at = pace
+control_on_named pace (Some (action.Release number)) at = pace
+control_on_named pace (Some (action.Fetch number)) at = pace
+control_on_named pace (Some action.Pick) at = pace
+control_on_named pace None at = pace

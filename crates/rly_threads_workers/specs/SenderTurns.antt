@@ -1,0 +1,220 @@
+-- A sending worker, turn by turn (docs/PROTOCOL.md, "The sending core").
+use Rattle.std.specs.Prelude.{ℕ, ◌+◌, ◌-◌, ◌==◌, min, nat_lt, List, [], ◌∷◌, ◌++◌, map, take, Bool, true, false, not}
+use Rattle.std.specs.Prelude.{◌||◌, if◌then◌else◌, fold, Option, Some, None, is_some, Ok, Err}
+use Rattle.std.specs.List.{filter_map, range_with_len, zip}
+use Rattle.rly_core.specs.declared.ids.HopId.{HopId}
+use Rattle.rly_core.specs.declared.refusal.Refusal.TheVariants as refusal
+use Rattle.rly_hop.specs.declared.message.Message.{Message}
+use Rattle.rly_hop.specs.declared.sending.event.OutAction.{OutAction}
+use Rattle.rly_hop.specs.declared.sending.event.OutAction.TheVariants as action
+use Rattle.rly_hop.specs.declared.sending.event.OutEvent.{OutEvent}
+use Rattle.rly_hop.specs.declared.sending.event.OutEvent.TheVariants as event
+use Rattle.rly_hop.specs.Sender.{Sender}
+use Rattle.rly_hop.specs.Sending.{sending_step, turn_action}
+use Rattle.rly_line.specs.declared.call_error.BatchError.{BatchError}
+use Rattle.rly_line.specs.declared.call_error.BatchError.TheVariants as error
+use Rattle.rly_machine.specs.declared.command.Ask.{Ask}
+use Rattle.rly_machine.specs.declared.command.Ask.TheVariants.{Command, Query}
+use Rattle.rly_machine.specs.declared.command.Command.TheVariants as command
+use Rattle.rly_machine.specs.declared.command.Query.TheVariants as query
+use Rattle.rly_machine.specs.declared.reply.Reply.{Reply}
+use Rattle.rly_machine.specs.declared.reply.Reply.TheVariants as reply
+use Rattle.rly_hop_pacing.specs.CongestionControl.{unsent_count}
+use Rattle.rly_plan.specs.ContactPlan.{ContactPlan, is_open, link}
+use Rattle.rly_threads_workers.specs.declared.sender_state.SenderState.{SenderState}
+use Rattle.rly_link.specs.declared.turn.Worker.TheVariants as worker
+use Rattle.rly_threads_workers.specs.DeskExchanges.{BatchOutcome}
+use Rattle.rly_threads_workers.specs.SenderState.{let_out, on_moment, control_on_answer, control_on_named, rate_after}
+use Rattle.rly_threads_workers.specs.SenderState.{send_room}
+use Rattle.rly_link.specs.LinkHistory.{message_in}
+use Rattle.rly_threads_workers.specs.Turns.{Done, Given, Made, around_call, has_some, nothing_done}
+use Rattle.rly_threads_workers.specs.Turns.{packets_of, with_hearings, with_start}
+
+-- its hop, and the plan for the contacts of its link
+pub record SenderWorker : Type 0 where
+  pub plan : ContactPlan
+  pub hop : HopId
+
+abbrev pub sender_worker : ContactPlan → HopId → SenderWorker
+sender_worker plan hop = record { plan = plan; hop = hop }
+
+-- the core after a message, if one was received
+abbrev pub sender_on_hearing : Sender → Option (Message (List ℕ)) → Sender
+sender_on_hearing s None = s
+sender_on_hearing s (Some m) = (sending_step s (event.Heard m)).0
+
+-- the core after a packet
+abbrev pub sender_on_packet : Sender → List ℕ → Sender
+sender_on_packet s packet = sender_on_hearing s (message_in (Some packet))
+
+-- How many Picks are submitted with the release of all up to this number: at most as many as may be in flight after
+-- it, and as may be sent at once after those in flight that weren't sent again yet.
+abbrev pub picks_beside : ℕ → SenderState → ℕ → ℕ
+picks_beside room p number =
+    min p.picks (min (p.core.window - (p.core.next - (number + 1))) (room - unsent_count p.pace p.core.next))
+
+-- How many calls are submitted together for the core's request, at most this many, if this many messages may be
+-- sent: the Fetches of the flight from this number on, a Release and the Picks with it, and as many Picks as may
+-- enter the flight. No more is fetched or picked than may be sent at once.
+abbrev pub call_count : ℕ → ℕ → SenderState → OutAction (List ℕ) → ℕ
+call_count most room p action.AskWindow = 1
+call_count most room p (action.Release number) = min most (picks_beside room p number + 1)
+call_count most room p (action.Fetch number) = min (min most room) (p.core.next - number)
+call_count most room p action.Pick = min (min most (min room p.picks)) (p.core.window - (p.core.next - p.core.first))
+call_count most room p (action.Send m) = 0
+
+-- the call at an index among those submitted together: the Fetch of a later number, a Pick after a Release, or the
+-- same call again
+abbrev pub call_at : OutAction (List ℕ) → ℕ → OutAction (List ℕ)
+call_at action.AskWindow place = action.AskWindow
+call_at (action.Release number) place = if place == 0 then action.Release number else action.Pick
+call_at (action.Fetch number) place = action.Fetch (number + place)
+call_at action.Pick place = action.Pick
+call_at (action.Send m) place = action.Send m
+
+-- this many calls that are submitted together, in order
+abbrev pub calls_from : OutAction (List ℕ) → ℕ → List (OutAction (List ℕ))
+calls_from first count = map (call_at first) (range_with_len 0 count)
+
+-- the ask of a call
+abbrev pub named_ask : SenderWorker → ℕ → OutAction (List ℕ) → Option Ask
+named_ask w now action.AskWindow = Some (Query (query.Window w.hop))
+named_ask w now (action.Release number) = Some (Command (command.Release w.hop number))
+named_ask w now (action.Fetch number) = Some (Query (query.Fetch w.hop number))
+named_ask w now action.Pick = Some (Command (command.Pick w.hop (link w.plan w.hop now)))
+named_ask w now (action.Send m) = None
+
+-- the core's event for a reply: a payload and its limit belong to the number that the core asked for
+abbrev pub fetch_event : OutAction (List ℕ) → List ℕ → ℕ → OutEvent (List ℕ)
+fetch_event (action.Fetch number) payload limit = event.Fetched number limit payload
+fetch_event action.AskWindow payload limit = event.Other
+fetch_event (action.Release number) payload limit = event.Other
+fetch_event action.Pick payload limit = event.Other
+fetch_event (action.Send m) payload limit = event.Other
+
+abbrev pub event_in : OutAction (List ℕ) → Reply → OutEvent (List ℕ)
+event_in named (reply.WindowIs first next) = event.WindowIs first next
+event_in named (reply.Picked number id expired dropped) = event.Picked number
+event_in named (reply.Nothing expired) = event.Nothing
+event_in named (reply.Bytes payload limit) = fetch_event named payload limit
+event_in named (reply.Released count) = event.Released
+event_in named reply.Unchanged = event.Unchanged
+event_in named (reply.Refused refusal) = event.Refused refusal
+event_in named (reply.Taken id) = event.Other
+event_in named (reply.Already last) = event.Other
+event_in named (reply.Shown status) = event.Other
+
+-- the core's event if there are no answers
+abbrev pub error_event : BatchError → OutEvent (List ℕ)
+error_event error.Closed = event.Refused refusal.Closed
+error_event error.Lost = event.Refused refusal.Lost
+
+-- the core's events for calls submitted together: one for each answer, in order, or one for the error
+abbrev pub sender_events : List (OutAction (List ℕ)) → BatchOutcome → List (OutEvent (List ℕ))
+sender_events calls (Ok answers) = map (λ x. event_in x.0 x.1.reply) (zip calls answers)
+sender_events calls (Err error) = error_event error ∷ []
+
+-- whether an answer by itself is progress: a window, or a datagram that was picked or released
+abbrev pub is_progress : OutEvent (List ℕ) → Bool
+is_progress (event.WindowIs first next) = true
+is_progress (event.Picked number) = true
+is_progress event.Released = true
+is_progress (event.Fetched number limit payload) = false
+is_progress event.Nothing = false
+is_progress event.Unchanged = false
+is_progress (event.Refused refusal) = false
+is_progress event.Other = false
+is_progress event.Timeout = false
+is_progress (event.Heard m) = false
+is_progress (event.Turn in_contact) = false
+
+-- the packets of an action while a contact is open; none while it is closed
+abbrev pub sender_packets : Bool → Option (OutAction (List ℕ)) → List (List ℕ)
+sender_packets true (Some (action.Send m)) = packets_of m
+sender_packets false (Some (action.Send m)) = []
+sender_packets in_contact (Some action.AskWindow) = []
+sender_packets in_contact (Some (action.Release number)) = []
+sender_packets in_contact (Some (action.Fetch number)) = []
+sender_packets in_contact (Some action.Pick) = []
+sender_packets in_contact None = []
+
+-- How many Picks may be submitted together after an answer: after a pick one more, 64 at most; 1 if there was
+-- nothing to pick or a call was refused.
+abbrev pub picks_after : ℕ → OutEvent (List ℕ) → ℕ
+picks_after picks (event.Picked number) = min 64 (picks + 1)
+picks_after picks event.Nothing = 1
+picks_after picks (event.Refused refusal) = 1
+picks_after picks (event.WindowIs first next) = picks
+picks_after picks (event.Fetched number limit payload) = picks
+picks_after picks event.Released = picks
+picks_after picks event.Unchanged = picks
+picks_after picks event.Other = picks
+picks_after picks event.Timeout = picks
+picks_after picks (event.Heard m) = picks
+picks_after picks (event.Turn in_contact) = picks
+
+-- the packets sent at a moment on this event of the core: those that it requests, if a contact is open and the rate
+-- permits it
+abbrev pub sent_on : Bool → ℕ → SenderState → OutEvent (List ℕ) → List (List ℕ)
+sent_on in_contact at p told = let_out p.rate (sender_packets in_contact (sending_step p.core told).1) at
+
+-- the core gets this event at a moment, and the message that it requests is sent
+abbrev pub after_out_event : Bool → ℕ → SenderState → OutEvent (List ℕ) → SenderState
+after_out_event in_contact at p told = record {
+  core = (sending_step p.core told).0;
+  moved = p.moved || (is_progress told || has_some (sent_on in_contact at p told));
+  picks = picks_after p.picks told;
+  pace = control_on_named (control_on_answer p.pace told) (sending_step p.core told).1 at;
+  rate = rate_after p.rate (sender_packets in_contact (sending_step p.core told).1) at;
+}
+
+-- the packets sent on these events of the core, in order
+abbrev pub sender_sent : Bool → ℕ → SenderState → List (OutEvent (List ℕ)) → List (List ℕ)
+sender_sent in_contact at p [] = []
+sender_sent in_contact at p (told ∷ others) =
+    sent_on in_contact at p told ++ sender_sent in_contact at (after_out_event in_contact at p told) others
+
+-- The calls are submitted together. The core gets the answers, in order, and the messages that it then requests are
+-- sent, if a contact is open by then.
+abbrev pub sender_on_calls : SenderWorker → ℕ → Made → SenderState → List (OutAction (List ℕ)) → Done SenderState
+sender_on_calls w now made p [] = nothing_done p
+sender_on_calls w now made p (first ∷ others) =
+    let told = sender_events (first ∷ others) made.outcome in
+    let in_contact = is_open w.plan w.hop made.after.now in record {
+      core = fold (after_out_event in_contact made.after.since) p told;
+      heard = [];
+      asked = (filter_map (named_ask w now) (first ∷ others), made.outcome) ∷ [];
+      sent = sender_sent in_contact made.after.since p told;
+      handed = around_call (worker.Sender w.hop) made;
+      woken = [];
+    }
+
+abbrev pub sender_on_action : SenderWorker → ℕ → ℕ → ℕ → Made → SenderState → Option (OutAction (List ℕ))
+    → Done SenderState
+sender_on_action w most room now made p None = nothing_done p
+sender_on_action w most room now made p (Some named) =
+    sender_on_calls w now made p (calls_from named (call_count most room p named))
+
+-- whether a turn waits for its first packet: the one before made no progress, or the core can only receive
+abbrev pub waits_first : Bool → Sender → Bool
+waits_first moved core = not moved || not (is_some (turn_action core true))
+
+-- The core's own turn, in which this many messages may be sent: if none may, its contact counts as closed.
+abbrev pub sender_acts : SenderWorker → ℕ → ℕ → SenderState → Given → Done SenderState
+sender_acts w most room p given =
+    let left = sending_step p.core (event.Turn (nat_lt 0 room)) in
+    sender_on_action w most room given.heard.now given.made (record p { core = left.0; moved = false }) left.1
+
+-- One turn, after its start, of at most this many calls. It receives up to 64 packets, and uses the time of the
+-- tick after them.
+abbrev pub sender_done : SenderWorker → ℕ → SenderState → Given → Done SenderState
+sender_done w most p given =
+    let packets = take 64 given.packets in
+    let heard = record p { core = fold sender_on_packet p.core packets } in
+    let ready = on_moment heard (is_open w.plan w.hop given.heard.now) given.heard.since in
+    with_hearings (worker.Sender w.hop) (waits_first p.moved p.core) packets given.heard
+    (sender_acts w most (send_room ready given.heard.since) ready given)
+
+-- one turn
+abbrev pub sender_turn : SenderWorker → ℕ → SenderState → Given → Done SenderState
+sender_turn w most p given = with_start (worker.Sender w.hop) given.start (sender_done w most p given)

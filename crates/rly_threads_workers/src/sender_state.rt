@@ -1,0 +1,225 @@
+ghost use Rattle.std.specs.Prelude.{◌≡◌, ◌≤◌, length, option_map};
+ghost use Rattle.rly_hop.specs.Payloads.{message_bytes, out_action_bytes, out_event_bytes};
+ghost use Rattle.rly_hop.specs.Sending.{sending_step};
+ghost use Rattle.rly_hop_pacing.specs.Rates.{first_bucket};
+ghost use Rattle.rly_link.specs.LinkHistory.{TellsMore};
+ghost use Rattle.rly_threads_workers.specs.SenderTurns.{is_progress, after_out_event, sender_packets, picks_after};
+ghost use Rattle.rly_threads_workers.specs.SenderTurns.{picks_beside, sent_on, waits_first};
+ghost use Rattle.rly_threads_workers.specs.SenderState.{first_sender_state, let_out, lets_out, on_moment};
+ghost use Rattle.rly_threads_workers.specs.SenderState.{control_on_answer, control_on_named, control_on_release};
+ghost use Rattle.rly_threads_workers.specs.SenderState.{rate_after, rate_after_one, send_room, set_back_if};
+ghost use Rattle.rly_threads_workers.specs.SenderState.{with_custody};
+ghost use Rattle.rly_threads_workers.specs.Turns.{has_some};
+
+use crate::desk::Desk;
+use crate::ends::{Buffer, Ends};
+use rly_core::{Params, limits};
+use rly_hop::{Message, OutAction, OutEvent, Sending, longest_message};
+use rly_hop_pacing::{CongestionControl, Rate};
+use rly_link::{Link, MAX_PACKET, Turn, Waker};
+
+/// Maximum number of calls that a sending worker submits together.
+pub(crate) const MAX_CALLS: u64 = limits::MAX_ROUND;
+
+/// The state of a sending worker between turns: its core, its congestion control and its rate limit.
+#[derive(Drop)]
+pub(crate) struct SenderState {
+    pub(crate) core: Sending,
+    /// Whether the last turn made progress.
+    pub(crate) moved: bool,
+    /// How many Picks may be submitted together.
+    pub(crate) picks: u64,
+    pub(crate) pace: CongestionControl,
+    /// The token bucket of the hop's rate, if it has one.
+    pub(crate) rate: Option<Rate>,
+}
+
+impl SenderState {
+    /// Before the first turn, in a spool with these parameters, for a hop with this `resend`, in milliseconds, and
+    /// this rate, in bytes a second, if it has one.
+    pub(crate) fn new(core: Sending, params: &Params, resend: u32, rate: Option<u32>) -> SenderState
+        ensures { result ≡ first_sender_state core params.now resend rate }
+    {
+        SenderState {
+            core,
+            moved: false,
+            picks: 1,
+            pace: CongestionControl::new(resend, params.window),
+            rate: full(rate, longest_message(params.payload) as u32),
+        }
+    }
+
+    /// Whether a turn waits for its first packet: the one before made no progress, or the core can only receive.
+    pub(crate) fn waits_first(&self) -> bool
+        ensures { result ≡ waits_first self.now.moved self.now.core }
+    {
+        !self.moved || self.core.can_only_hear()
+    }
+
+    /// The turn's time, by the monotonic clock, and whether a contact is open then.
+    pub(crate) fn moment(&mut self, is_open: bool, at: u64)
+        ensures { self.new ≡ on_moment self.old is_open at }
+    {
+        let opens = self.pace.contact(is_open);
+        self.set_back(opens);
+        self.hear_custody(at);
+        let is_due = self.pace.timeout(at);
+        self.set_back(is_due);
+    }
+
+    /// Gives the core a Timeout, if `is_due`.
+    fn set_back(&mut self, is_due: bool)
+        ensures { self.new ≡ set_back_if is_due self.old }
+    {
+        if is_due {
+            let _nothing = self.core.step(OutEvent::Timeout);
+        }
+    }
+
+    /// Custody of all up to the number to release was received.
+    fn hear_custody(&mut self, at: u64)
+        ensures { self.new ≡ with_custody self.old at }
+    {
+        let named = self.core.step(OutEvent::Turn { is_open: false });
+        note_release(&mut self.pace, named, at);
+    }
+
+    /// How many messages may be sent at a moment.
+    pub(crate) fn room(&self, at: u64) -> u64
+        ensures { result ≡ send_room self.now at }
+    {
+        let room = self.pace.room();
+        match &self.rate {
+            Some(rate) => room.min(rate.room(at)),
+            None => room,
+        }
+    }
+
+    /// How many Picks are submitted with the release of all up to this number, if `room` messages may be sent.
+    pub(crate) fn picks_beside(&self, room: u64, number: u64) -> u64
+        ensures { result ≡ picks_beside room self.now number }
+    {
+        let left = room.saturating_sub(self.pace.unsent_count(self.core.next()));
+        self.picks.min(self.core.room_after(number).min(left))
+    }
+
+    /// Passes an event to the core, and sends the message that it requests, if a contact is open and the rate
+    /// permits it.
+    pub(crate) fn tell<L: Link, K: Desk, T: Turn, W: Waker>(
+        &mut self,
+        buffer: &mut Buffer,
+        is_open: bool,
+        at: u64,
+        event: OutEvent<&[u8]>,
+        ends: &mut Ends<L, K, T, W>,
+    )
+        ensures state { self.new ≡ after_out_event is_open at self.old (out_event_bytes event.entry) }
+        ensures sent { TellsMore ends.old.sent ends.new.sent
+            (sent_on is_open at self.old (out_event_bytes event.entry)) }
+        ensures ends { ends.new ≡ record ends.old { sent = ends.new.sent } }
+    {
+        let progress = is_progress(&event);
+        self.picks = picks_after(self.picks, &event);
+        note_answer(&mut self.pace, &event);
+        let named = self.core.step(event);
+        note_named(&mut self.pace, named, at);
+        let sent = send_named(is_open, at, named, buffer, &mut self.rate, ends);
+        self.moved |= progress || sent;
+    }
+}
+
+/// The token bucket of a rate at first, with its full burst, for messages of at most this many bytes.
+fn full(rate: Option<u32>, longest: u32) -> Option<Rate>
+    ensures { result ≡ option_map (λ r. first_bucket r longest 0) rate }
+{
+    match rate {
+        Some(rate) => Some(Rate::new(rate, longest, 0)),
+        None => None,
+    }
+}
+
+/// Reports to the congestion control the custody of all up to the number that the core is to release, if any.
+fn note_release(pace: &mut CongestionControl, named: Option<OutAction<&[u8]>>, at: u64)
+    ensures { pace.new ≡ control_on_release pace.old (option_map out_action_bytes named.entry) at }
+{
+    if let Some(OutAction::Release(number)) = named {
+        pace.covered(number, at);
+    }
+}
+
+/// Reports to the congestion control the window, if it was answered.
+fn note_answer(pace: &mut CongestionControl, event: &OutEvent<&[u8]>)
+    ensures { pace.new ≡ control_on_answer pace.old (out_event_bytes event.now) }
+{
+    if let OutEvent::WindowIs { first, next } = event {
+        if *first <= *next {
+            pace.window_is(*first, *next);
+        }
+    }
+}
+
+/// Reports to the congestion control the number that the core sends, if any.
+fn note_named(pace: &mut CongestionControl, named: Option<OutAction<&[u8]>>, at: u64)
+    ensures { pace.new ≡ control_on_named pace.old (option_map out_action_bytes named.entry) at }
+{
+    if let Some(OutAction::Send(Message::Data { number, .. })) = named {
+        pace.sent(number, at);
+    }
+}
+
+/// How many Picks may be submitted together after an answer.
+fn picks_after(picks: u64, event: &OutEvent<&[u8]>) -> u64
+    ensures { result ≡ picks_after picks (out_event_bytes event.now) }
+{
+    match event {
+        OutEvent::Picked(_) => picks.saturating_add(1).min(MAX_CALLS),
+        OutEvent::Nothing | OutEvent::Refused(_) => 1,
+        _ => picks,
+    }
+}
+
+/// Whether an answer by itself is progress.
+fn is_progress(event: &OutEvent<&[u8]>) -> bool
+    ensures { result ≡ is_progress (out_event_bytes event.now) }
+{
+    matches!(
+        event,
+        OutEvent::WindowIs { .. } | OutEvent::Picked(_) | OutEvent::Released
+    )
+}
+
+/// Sends the message of an action, if it has one, a contact is open and the rate permits it. Returns whether a
+/// packet was sent.
+fn send_named<L: Link, K: Desk, T: Turn, W: Waker>(
+    is_open: bool,
+    at: u64,
+    action: Option<OutAction<&[u8]>>,
+    buffer: &mut Buffer,
+    rate: &mut Option<Rate>,
+    ends: &mut Ends<L, K, T, W>,
+) -> bool
+    ensures rate { rate.new
+        ≡ rate_after rate.old (sender_packets is_open (option_map out_action_bytes action.entry)) at }
+    ensures told { TellsMore ends.old.sent ends.new.sent
+        (let_out rate.old (sender_packets is_open (option_map out_action_bytes action.entry)) at) }
+    ensures same { ends.new ≡ record ends.old { sent = ends.new.sent } }
+    ensures whether { result
+        ≡ has_some (let_out rate.old (sender_packets is_open (option_map out_action_bytes action.entry)) at) }
+{
+    match action {
+        Some(OutAction::Send(message)) if is_open => ends.send_at(message, buffer, rate, at),
+        Some(_) | None => false,
+    }
+}
+
+/// Whether the rate permits a packet at a moment; if so, its cost is spent.
+pub(crate) fn let_one_out(rate: &mut Option<Rate>, packet: &[u8], at: u64) -> bool
+    requires { length packet.now ≤ MAX_PACKET }
+    ensures state { rate.new ≡ rate_after_one rate.old packet.now at }
+    ensures whether { result ≡ lets_out rate.old packet.now at }
+{
+    match rate {
+        Some(rate) => rate.take(packet.len() as u32, at),
+        None => true,
+    }
+}

@@ -1,8 +1,0 @@
-use Rattle.rly_plan.specs.ContactPlan.{rate, resend}
-use Rattle.rly_workers.specs.Outlet.{outlet}
-use Rattle.rly_workers.proofs.RateKept.{rate_kept}
-use Rattle.rly_workers.proofs.sender.law_turns_keep_the_rate.Goals as goal
-
-pub returns : goal.returns
-returns c plan hop params most bytes core before first later is =
-    rate_kept (outlet plan hop) most params (resend plan hop) bytes (rate plan hop) core before first later is

@@ -1,0 +1,5 @@
+mod StationCalls
+mod StationAccepted
+mod StationSteps
+mod StationCrash
+mod PairRelays

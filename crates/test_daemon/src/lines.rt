@@ -1,0 +1,7 @@
+//! `sim` and `play`.
+
+mod flushes;
+mod growths;
+mod plays;
+mod rows;
+mod streams;

@@ -1,0 +1,6 @@
+//! Keys, and packets with tags.
+
+mod keys;
+mod links;
+mod packets;
+mod vectors;

@@ -1,0 +1,7 @@
+//! Data that came ahead of a gap.
+
+mod growths;
+mod links;
+mod packets;
+mod reorder_buffer;
+mod workers;

@@ -1,0 +1,47 @@
+//! The packets of these tests, by the bytes of docs/PROTOCOL.md.
+use std::alloc::{AllocError, Global};
+use std::process::Abort;
+
+/// Data from station 3 to station 7 under a number below 256, payload `000c` and that number.
+pub(crate) fn data(number: u8) -> [u8; 21] {
+    let mut packet =
+        *b"\x52\x4c\x01\x01\x00\x03\x00\x07\x00\x00\x00\x00\x00\x00\x00\x00\x00\x03\x00\x0c\x00";
+    packet[15] = number;
+    packet[20] = number;
+    packet
+}
+
+/// The same with a limit of 5,000 microseconds.
+pub(crate) fn limited(number: u8) -> [u8; 26] {
+    let mut packet =
+        *b"\x52\x4c\x01\x04\x00\x03\x00\x07\x00\x00\x00\x00\x00\x00\x00\x00\x00\x00\x00\x13\x88\x00\x03\x00\x0c\x00";
+    packet[15] = number;
+    packet[25] = number;
+    packet
+}
+
+/// Custody from station 7 to station 3 of all numbers up to one below 256.
+pub(crate) fn custody(last: u8) -> [u8; 16] {
+    let mut packet = *b"\x52\x4c\x01\x02\x00\x07\x00\x03\x00\x00\x00\x00\x00\x00\x00\x00";
+    packet[15] = last;
+    packet
+}
+
+/// The next receive of a link: this packet, or nothing if it is empty.
+fn given(alloc: Global, packet: &[u8]) -> Result<Option<Vec<u8>>, AllocError> {
+    if packet.is_empty() {
+        return Ok(None);
+    }
+    Ok(Some(packet.to_vec(alloc)?))
+}
+
+/// Adds a packet to the receives of a link, or nothing if it is empty.
+pub(crate) fn put<R: Abort>(
+    rt: &R,
+    alloc: Global,
+    coming: &mut Vec<Option<Vec<u8>>>,
+    packet: &[u8],
+) {
+    let next = given(alloc, packet).expect(rt, "memory");
+    coming.push(next).expect(rt, "memory");
+}

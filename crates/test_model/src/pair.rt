@@ -1,0 +1,7 @@
+//! Two relays that run.
+
+mod copies;
+mod lengths;
+mod limits;
+mod pairs;
+mod script;

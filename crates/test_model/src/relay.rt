@@ -1,0 +1,7 @@
+//! One relay that runs.
+
+mod cycles;
+mod growths;
+mod limits;
+mod reads;
+mod script;

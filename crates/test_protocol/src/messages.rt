@@ -1,0 +1,361 @@
+//! The worked messages of docs/PROTOCOL.md, and bytes that are no message.
+use rly_core::Refusal;
+use rly_hop::{Message, StationId, longest_message, read_message, write_message};
+use std::process::Abort;
+
+/// Data from station 3 to 7, number 1, payload `000c41`.
+const DATA: [u8; 21] = [
+    0x52, 0x4c, 0x01, 0x01, 0x00, 0x03, 0x00, 0x07, 0, 0, 0, 0, 0, 0, 0, 1, 0x00, 0x03, 0x00, 0x0c,
+    0x41,
+];
+
+/// Data from station 3 to 7, number 1, limit 5,000, payload `000c41`.
+const LIMITED: [u8; 26] = [
+    0x52, 0x4c, 0x01, 0x04, 0x00, 0x03, 0x00, 0x07, 0, 0, 0, 0, 0, 0, 0, 1, 0, 0, 0, 0x13, 0x88,
+    0x00, 0x03, 0x00, 0x0c, 0x41,
+];
+
+/// The same with the maximum limit.
+const MOST_LIMITED: [u8; 26] = [
+    0x52, 0x4c, 0x01, 0x04, 0x00, 0x03, 0x00, 0x07, 0, 0, 0, 0, 0, 0, 0, 1, 0xff, 0xff, 0xff, 0xff,
+    0xff, 0x00, 0x03, 0x00, 0x0c, 0x41,
+];
+
+/// The custody of each of them.
+const CUSTODY: [u8; 16] = [
+    0x52, 0x4c, 0x01, 0x02, 0x00, 0x07, 0x00, 0x03, 0, 0, 0, 0, 0, 0, 0, 1,
+];
+
+/// Refused as Full, in place of its custody.
+const FULL: [u8; 17] = [
+    0x52, 0x4c, 0x01, 0x03, 0x00, 0x07, 0x00, 0x03, 0, 0, 0, 0, 0, 0, 0, 1, 0x06,
+];
+
+const DATA_MESSAGE: Message<&[u8]> = Message::Data {
+    from: StationId(3),
+    to: StationId(7),
+    number: 1,
+    limit: 0,
+    payload: &[0x00, 0x0c, 0x41],
+};
+
+const LIMITED_MESSAGE: Message<&[u8]> = Message::Data {
+    from: StationId(3),
+    to: StationId(7),
+    number: 1,
+    limit: 5_000,
+    payload: &[0x00, 0x0c, 0x41],
+};
+
+const MOST_LIMITED_MESSAGE: Message<&[u8]> = Message::Data {
+    from: StationId(3),
+    to: StationId(7),
+    number: 1,
+    limit: 1_099_511_627_775,
+    payload: &[0x00, 0x0c, 0x41],
+};
+
+const CUSTODY_MESSAGE: Message<&[u8]> = Message::Custody {
+    from: StationId(7),
+    to: StationId(3),
+    last: 1,
+};
+
+const FULL_MESSAGE: Message<&[u8]> = Message::Refused {
+    from: StationId(7),
+    to: StationId(3),
+    number: 1,
+    refusal: 6,
+};
+
+/// The worked messages.
+const WORKED: [(&[u8], Message<&[u8]>); 5] = [
+    (&DATA, DATA_MESSAGE),
+    (&LIMITED, LIMITED_MESSAGE),
+    (&MOST_LIMITED, MOST_LIMITED_MESSAGE),
+    (&CUSTODY, CUSTODY_MESSAGE),
+    (&FULL, FULL_MESSAGE),
+];
+
+/// These bytes are decoded as this message, which is encoded as these bytes.
+fn expect_spelled<R: Abort>(rt: &R, bytes: &[u8], message: Message<&[u8]>) {
+    expect!(*rt; read_message(bytes) == Ok(message));
+    let mut out = [0xee; 8_300];
+    expect!(*rt; write_message(message, &mut out) == Ok(bytes.len()));
+    expect!(*rt; out.iter().take(bytes.len()).eq(bytes.iter()));
+    expect!(*rt; out.get(bytes.len()) == Some(&0xee));
+}
+
+#[test]
+fn the_worked_messages_are_read_and_written(rt: HostRuntime) {
+    for (bytes, message) in &WORKED {
+        expect_spelled(&rt, *bytes, *message);
+    }
+}
+
+fn fault(bytes: &[u8]) -> Option<Refusal> {
+    read_message(bytes).err()
+}
+
+fn message_in(bytes: &[u8]) -> Option<Message<&[u8]>> {
+    read_message(bytes).ok()
+}
+
+/// Bytes, the length of the part that is read, and its refusal.
+type Refused = (&'static [u8], usize, Refusal);
+
+/// Checks the refusal of a row's prefix.
+fn expect_refused<R: Abort>(rt: &R, row: u64, (bytes, length, refusal): &Refused) {
+    expect!(*rt; bytes.get(..*length).and_then(fault) == Some(*refusal), row);
+}
+
+/// Faults of the header.
+const HEADERS: [Refused; 11] = [
+    (&[], 0, Refusal::Short),
+    (
+        &[0x52, 0x4c, 0x01, 0x01, 0x00, 0x03, 0x00],
+        7,
+        Refusal::Short,
+    ),
+    (&[0x52, 0x4d, 0x02, 0x07, 0, 0, 0, 0], 8, Refusal::Magic),
+    (&[0x4c, 0x52, 0x01, 0x01, 0, 3, 0, 7], 8, Refusal::Magic),
+    (&[0x52, 0x4c, 0x02, 0x07, 0, 0, 0, 0], 8, Refusal::Version),
+    (&[0x52, 0x4c, 0x01, 0x07, 0, 0, 0, 0], 8, Refusal::Kind),
+    (&[0x52, 0x4c, 0x01, 0x00, 0, 3, 0, 7], 8, Refusal::Kind),
+    (&[0x52, 0x4c, 0x01, 0x05, 0, 3, 0, 7], 8, Refusal::Kind),
+    (&[0x52, 0x4c, 0x01, 0x04, 0, 0, 0, 7], 8, Refusal::Station),
+    (&[0x52, 0x4c, 0x01, 0x02, 0, 0, 0, 7], 8, Refusal::Station),
+    (&[0x52, 0x4c, 0x01, 0x02, 0, 3, 0, 0], 8, Refusal::Station),
+];
+
+#[test]
+fn faults_of_the_header(rt: HostRuntime) {
+    for (row, refused) in HEADERS.iter().enumerate() {
+        expect_refused(&rt, row as u64, refused);
+    }
+}
+
+/// The worked Data with one byte changed.
+fn changed(place: usize, byte: u8) -> [u8; 21] {
+    let mut bytes = DATA;
+    if let Some(found) = bytes.get_mut(place) {
+        *found = byte;
+    }
+    bytes
+}
+
+/// An offset, the byte there, and the refusal of the worked Data with it.
+const CHANGES: [(usize, u8, Refusal); 4] = [
+    (1, 0x4d, Refusal::Magic),
+    (2, 0x02, Refusal::Version),
+    (3, 0x07, Refusal::Kind),
+    (5, 0x00, Refusal::Station),
+];
+
+/// Checks each of these refusals.
+fn expect_changes<R: Abort>(rt: &R) {
+    for (place, byte, refusal) in &CHANGES {
+        expect!(*rt; fault(&changed(*place, *byte)) == Some(*refusal), *place as u64);
+    }
+}
+
+#[test]
+fn changes_of_the_worked_data(rt: HostRuntime) {
+    expect_changes(&rt);
+}
+
+/// A custody, a refusal and a Data with one byte too many.
+const CUSTODY_AND_MORE: [u8; 17] = [
+    0x52, 0x4c, 0x01, 0x02, 0x00, 0x07, 0x00, 0x03, 0, 0, 0, 0, 0, 0, 0, 1, 0,
+];
+
+const FULL_AND_MORE: [u8; 18] = [
+    0x52, 0x4c, 0x01, 0x03, 0x00, 0x07, 0x00, 0x03, 0, 0, 0, 0, 0, 0, 0, 1, 6, 0,
+];
+
+const DATA_AND_MORE: [u8; 22] = [
+    0x52, 0x4c, 0x01, 0x01, 0x00, 0x03, 0x00, 0x07, 0, 0, 0, 0, 0, 0, 0, 1, 0x00, 0x03, 0x00, 0x0c,
+    0x41, 0,
+];
+
+const LIMITED_AND_MORE: [u8; 27] = [
+    0x52, 0x4c, 0x01, 0x04, 0x00, 0x03, 0x00, 0x07, 0, 0, 0, 0, 0, 0, 0, 1, 0, 0, 0, 0x13, 0x88,
+    0x00, 0x03, 0x00, 0x0c, 0x41, 0,
+];
+
+/// Data with stated payload lengths of 1,201, 8,192 and 8,193 bytes.
+const DATA_OF_1201: [u8; 21] = [
+    0x52, 0x4c, 0x01, 0x01, 0x00, 0x03, 0x00, 0x07, 0, 0, 0, 0, 0, 0, 0, 1, 0x04, 0xb1, 0x00, 0x0c,
+    0x41,
+];
+
+const DATA_OF_8192: [u8; 21] = [
+    0x52, 0x4c, 0x01, 0x01, 0x00, 0x03, 0x00, 0x07, 0, 0, 0, 0, 0, 0, 0, 1, 0x20, 0x00, 0x00, 0x0c,
+    0x41,
+];
+
+const DATA_OF_8193: [u8; 21] = [
+    0x52, 0x4c, 0x01, 0x01, 0x00, 0x03, 0x00, 0x07, 0, 0, 0, 0, 0, 0, 0, 1, 0x20, 0x01, 0x00, 0x0c,
+    0x41,
+];
+
+/// The same of a Data with a limit.
+const LIMITED_OF_8192: [u8; 26] = [
+    0x52, 0x4c, 0x01, 0x04, 0x00, 0x03, 0x00, 0x07, 0, 0, 0, 0, 0, 0, 0, 1, 0, 0, 0, 0x13, 0x88,
+    0x20, 0x00, 0x00, 0x0c, 0x41,
+];
+
+const LIMITED_OF_8193: [u8; 26] = [
+    0x52, 0x4c, 0x01, 0x04, 0x00, 0x03, 0x00, 0x07, 0, 0, 0, 0, 0, 0, 0, 1, 0, 0, 0, 0x13, 0x88,
+    0x20, 0x01, 0x00, 0x0c, 0x41,
+];
+
+/// Data with a limit of 0: whole, and of 8,193 bytes.
+const LIMIT_OF_NONE: [u8; 26] = [
+    0x52, 0x4c, 0x01, 0x04, 0x00, 0x03, 0x00, 0x07, 0, 0, 0, 0, 0, 0, 0, 1, 0, 0, 0, 0, 0, 0x00,
+    0x03, 0x00, 0x0c, 0x41,
+];
+
+const LIMIT_OF_NONE_OF_8193: [u8; 26] = [
+    0x52, 0x4c, 0x01, 0x04, 0x00, 0x03, 0x00, 0x07, 0, 0, 0, 0, 0, 0, 0, 1, 0, 0, 0, 0, 0, 0x20,
+    0x01, 0x00, 0x0c, 0x41,
+];
+
+/// Faults of the length. A limit of 0 is checked once the part before the payload is whole, and before the
+/// payload's length.
+const LENGTHS: [Refused; 19] = [
+    (&CUSTODY, 15, Refusal::Short),
+    (&CUSTODY_AND_MORE, 17, Refusal::Long),
+    (&FULL, 16, Refusal::Short),
+    (&FULL_AND_MORE, 18, Refusal::Long),
+    (&DATA_AND_MORE, 22, Refusal::Long),
+    (&DATA_OF_1201, 21, Refusal::Short),
+    (&DATA_OF_8192, 21, Refusal::Short),
+    (&DATA_OF_8193, 21, Refusal::Long),
+    (&DATA_OF_8193, 18, Refusal::Long),
+    (&DATA_OF_8193, 17, Refusal::Short),
+    (&LIMITED_AND_MORE, 27, Refusal::Long),
+    (&LIMITED_OF_8192, 26, Refusal::Short),
+    (&LIMITED_OF_8192, 23, Refusal::Short),
+    (&LIMITED_OF_8193, 26, Refusal::Long),
+    (&LIMITED_OF_8193, 22, Refusal::Short),
+    (&LIMIT_OF_NONE, 26, Refusal::Kind),
+    (&LIMIT_OF_NONE, 23, Refusal::Kind),
+    (&LIMIT_OF_NONE, 22, Refusal::Short),
+    (&LIMIT_OF_NONE_OF_8193, 26, Refusal::Kind),
+];
+
+#[test]
+fn faults_of_the_length(rt: HostRuntime) {
+    for (row, refused) in LENGTHS.iter().enumerate() {
+        expect_refused(&rt, row as u64, refused);
+    }
+}
+
+/// A message that is cut anywhere is too short.
+fn expect_cut(rt: &impl Abort, message: &[u8]) {
+    for length in 0..message.len() {
+        expect!(*rt; message.get(..length).and_then(fault) == Some(Refusal::Short), length as u64);
+    }
+}
+
+#[test]
+fn messages_that_are_cut_are_too_short(rt: HostRuntime) {
+    expect_cut(&rt, &DATA);
+    expect_cut(&rt, &LIMITED);
+}
+
+/// A Data of the longest payload with this limit has this length. It is written and read; without its last byte it
+/// is no message.
+fn expect_longest(rt: &impl Abort, limit: u64, length: usize) {
+    let payload = [0x5a; 8_192];
+    let message = Message::Data {
+        from: StationId(1),
+        to: StationId(65_535),
+        number: 0xffff_ffff_ffff_ffff,
+        limit,
+        payload: payload.as_slice(),
+    };
+    let mut out = [0; 8_215];
+    expect!(*rt; write_message(message, &mut out) == Ok(length));
+    expect!(*rt; out.get(..length).and_then(message_in) == Some(message));
+    expect!(*rt; out.get(..length.saturating_sub(1)).and_then(fault) == Some(Refusal::Short));
+}
+
+#[test]
+fn the_longest_messages_are_written_and_read(rt: HostRuntime) {
+    expect_longest(&rt, 0, 8_210);
+    expect_longest(&rt, 5_000, 8_215);
+}
+
+/// A Data that isn't written, for this cause.
+fn expect_unwritten(rt: &impl Abort, from: u16, limit: u64, length: usize, refusal: Refusal) {
+    let payload = [0; 8_193];
+    let message = Message::Data {
+        from: StationId(from),
+        to: StationId(7),
+        number: 1,
+        limit,
+        payload: payload.get(..length).unwrap_or(&[]),
+    };
+    let mut out = [0xee; 8_300];
+    expect!(*rt; write_message(message, &mut out) == Err(refusal));
+    expect!(*rt; out[0] == 0xee);
+}
+
+/// A station, a limit and a payload's length without an encoding, and the refusal. A message without a station is
+/// refused first, then a limit that doesn't fit its five bytes, or a payload above 8,192 bytes.
+const UNWRITTEN: [(u16, u64, usize, Refusal); 5] = [
+    (3, 0, 8_193, Refusal::Long),
+    (3, 5_000, 8_193, Refusal::Long),
+    (3, 1_099_511_627_776, 3, Refusal::Long),
+    (0, 0, 8_193, Refusal::Station),
+    (0, 1_099_511_627_776, 3, Refusal::Station),
+];
+
+#[test]
+fn what_has_no_spelling_is_not_written(rt: HostRuntime) {
+    for (from, limit, length, refusal) in &UNWRITTEN {
+        expect_unwritten(&rt, *from, *limit, *length, *refusal);
+    }
+}
+
+/// Checks that a message to no station isn't written.
+fn expect_no_station<R: Abort>(rt: &R) {
+    let mut out = [0xee; 8_300];
+    let to_none = Message::Custody {
+        from: StationId(7),
+        to: StationId(0),
+        last: 1,
+    };
+    expect!(*rt; write_message(to_none, &mut out) == Err(Refusal::Station));
+    expect!(*rt; out[0] == 0xee);
+}
+
+#[test]
+fn custody_for_no_station_is_not_written(rt: HostRuntime) {
+    expect_no_station(&rt);
+}
+
+/// The buffer size for messages, by the longest payload of a spool: 23 bytes before the payload, and no payload has
+/// more than 8,192.
+const LONGEST: [(u64, usize); 6] = [
+    (0, 23),
+    (1, 24),
+    (1_200, 1_223),
+    (8_192, 8_215),
+    (8_193, 8_215),
+    (u64::MAX, 8_215),
+];
+
+/// Checks this size.
+fn expect_room<R: Abort>(rt: &R) {
+    for (payload, length) in &LONGEST {
+        expect!(*rt; longest_message(*payload) == *length, *payload);
+    }
+}
+
+#[test]
+fn the_longest_message_of_a_spool(rt: HostRuntime) {
+    expect_room(&rt);
+}

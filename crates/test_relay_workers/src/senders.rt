@@ -1,0 +1,402 @@
+//! A sending worker.
+//!
+//! The expected rows follow from docs/PROTOCOL.md, "The sending core".
+
+use crate::script::{ANY, OF_9, ONE, Row, SENDER, Script, TO_9, expect_script, expect_scripts};
+use crate::workers::{Packets, Spool};
+use rly_core::{Params, Refusal};
+use std::alloc::Global;
+use std::process::Abort;
+use std::sync::Wait;
+
+/// A sender to hop 1: the number of waiting datagrams, and the window; the moment of the first turn, and the length
+/// of each turn and each call; and the call of its link that fails. The packets received, the packets sent, in
+/// order, and the effects.
+pub(super) type Case<'a> = (
+    &'a str,
+    [u64; 6],
+    &'a [Packets<'a>],
+    &'a [Packets<'a>],
+    &'a [Row],
+);
+
+/// A spool with this many waiting datagrams, and a window of 64.
+fn queue(first: u64) -> Spool {
+    Spool {
+        params: Params {
+            window: 64,
+            ..Params::DEFAULT
+        },
+        peer: 1,
+        first,
+        second: 0,
+    }
+}
+
+/// Checks a sender that receives this.
+fn expect_sender<'a, R: Abort + Wait>(
+    rt: &R,
+    alloc: Global,
+    (shows, [first, window, start, step, call, fails_at], _, sent, rows): Case<'a>,
+    heard: &'a [Packets<'a>],
+) {
+    let script = Script {
+        shows,
+        spool: queue(first),
+        window,
+        heard,
+        fails_at,
+        start,
+        step,
+        call,
+        sent,
+        rows,
+        ..SENDER
+    };
+    expect_script(rt, alloc, &script);
+}
+
+/// Checks these senders.
+pub(super) fn expect_senders<'a, R: Abort + Wait>(rt: &R, alloc: Global, cases: &[Case<'a>]) {
+    for case in cases {
+        expect_sender(rt, alloc, *case, case.2);
+    }
+}
+
+const CONTACTS: [Case<'static>; 4] = [
+    // It waits initially, after the datagram was sent, and after a turn in which the spool had nothing more to
+    // pick.
+    (
+        "a sender asks for the window, picks, fetches and sends, and releases what is kept, beside which it picks",
+        [1, 1, 150, 1, 0, 0],
+        &[(3, OF_9, &[1])],
+        &[(0, TO_9, &[1, 1, 1])],
+        &[
+            (1, [1, 0, 1, ANY], [1, 0, 0]),
+            (2, [2, 0, 1, ANY], [0, 1, 0]),
+            (3, [3, 1, 1, ANY], [0, 1, 0]),
+            (4, [5, 1, 2, ANY], [0, 0, 1]),
+            (5, [6, 1, 2, ANY], [0, 0, 1]),
+            (6, [7, 1, 3, ANY], [0, 0, 1]),
+            (7, [8, 1, 4, ANY], [0, 0, 1]),
+        ],
+    ),
+    (
+        "outside of a contact it asks for the window, and does nothing more but wait",
+        [1, 1, 200, 1, 0, 0],
+        &[],
+        &[(0, TO_9, &[1, 1, 1])],
+        &[(64, [1, 0, 63, ANY], [1, 0, 0])],
+    ),
+    (
+        "after the end of a contact a release is made alone",
+        [2, 1, 140, 20, 0, 0],
+        &[(3, OF_9, &[1])],
+        &[(0, TO_9, &[1, 1, 1])],
+        &[(6, [4, 1, ANY, ANY], [1, 0, 1])],
+    ),
+    // All turns waited except the second and the third, which had work left.
+    (
+        "what was fetched within a contact and answered after its end is held back, and sent as the next contact opens",
+        [1, 1, 130, 10, 20, 0],
+        &[],
+        &[(0, TO_9, &[1, 1, 1])],
+        &[
+            (3, [ANY, 0, 1, ANY], [0, 1, 0]),
+            (11, [ANY, 0, 9, ANY], [0, 1, 0]),
+            (12, [ANY, 1, 10, ANY], [0, 1, 0]),
+        ],
+    ),
+];
+
+/// A datagram is sent only within a contact.
+#[test]
+fn a_datagram_goes_out_in_a_contact(rt: HostRuntime) {
+    expect_senders(&rt, rt.alloc(), &CONTACTS);
+}
+
+const BATCHES: [Case<'static>; 5] = [
+    // The first turn asks for the window. Then Picks and the Fetches of the picked datagrams alternate: 1, 2, 4 and
+    // 3 of each, since the initial window is ten. The others stay in the spool.
+    (
+        "a long queue is asked for by ever more Picks together, and what they picked goes out together, ten in all",
+        [70, 64, 1_000, 1, 0, 0],
+        &[],
+        &[(0, TO_9, &[1, 2, 3, 4, 5, 6, 7, 8, 9, 10])],
+        &[
+            (1, [1, 0, ANY, ANY], [70, 0, 0]),
+            (2, [2, 0, ANY, ANY], [69, 1, 0]),
+            (3, [3, 1, ANY, ANY], [69, 1, 0]),
+            (4, [5, 1, ANY, ANY], [67, 3, 0]),
+            (5, [7, 3, ANY, ANY], [67, 3, 0]),
+            (6, [11, 3, ANY, ANY], [63, 7, 0]),
+            (7, [15, 7, ANY, ANY], [63, 7, 0]),
+            (8, [18, 7, ANY, ANY], [60, 10, 0]),
+            (9, [21, 10, ANY, ANY], [60, 10, 0]),
+            (10, [21, 10, ANY, ANY], [60, 10, 0]),
+            (40, [21, 10, ANY, ANY], [60, 10, 0]),
+        ],
+    ),
+    // The eleventh turn receives the custody of the tenth, which grows the window from ten to 20. Its Release and
+    // 11 Picks are submitted together, since one more Pick may be submitted together after each that found a
+    // datagram. Then the 11 are fetched, and 9 more are picked and fetched.
+    (
+        "what may be on its way grows by one for each number that is covered",
+        [70, 64, 1_000, 1, 0, 0],
+        &[(10, OF_9, &[10])],
+        &[(
+            0,
+            TO_9,
+            &[
+                1, 2, 3, 4, 5, 6, 7, 8, 9, 10, 11, 12, 13, 14, 15, 16, 17, 18, 19, 20, 21, 22, 23,
+                24, 25, 26, 27, 28, 29, 30,
+            ],
+        )],
+        &[
+            (10, [21, 10, ANY, ANY], [60, 10, 0]),
+            (11, [33, 10, ANY, ANY], [49, 11, 10]),
+            (12, [44, 21, ANY, ANY], [49, 11, 10]),
+            (13, [53, 21, ANY, ANY], [40, 20, 10]),
+            (14, [62, 30, ANY, ANY], [40, 20, 10]),
+            (40, [62, 30, ANY, ANY], [40, 20, 10]),
+        ],
+    ),
+    // Picks and the Fetches of the picked datagrams alternate: 1, 2 and 1 of each. The eighth turn receives the
+    // custody of the third. Its Release and three Picks are submitted together, and the ninth turn fetches the
+    // picked datagrams. Then the core can only receive.
+    (
+        "what may be in flight after a release is picked beside it, in one round",
+        [10, 4, 1_000, 1, 0, 0],
+        &[(7, OF_9, &[3])],
+        &[(0, TO_9, &[1, 2, 3, 4, 5, 6, 7])],
+        &[
+            (6, [8, 3, ANY, ANY], [6, 4, 0]),
+            (7, [9, 4, ANY, ANY], [6, 4, 0]),
+            (8, [13, 4, ANY, ANY], [3, 4, 3]),
+            (9, [16, 7, ANY, ANY], [3, 4, 3]),
+            (10, [16, 7, ANY, ANY], [3, 4, 3]),
+        ],
+    ),
+    // Of the two Picks of the fourth turn one finds nothing, so that one is submitted per turn from there on. The
+    // first turn waits, and so does each one after a turn whose Pick found nothing.
+    (
+        "a hop for which nothing waits is asked for by one Pick a turn",
+        [2, 64, 1_000, 1, 0, 0],
+        &[],
+        &[(0, TO_9, &[1, 2])],
+        &[
+            (3, [3, 1, 1, ANY], [1, 1, 0]),
+            (4, [5, 1, 1, ANY], [0, 2, 0]),
+            (5, [6, 2, 1, ANY], [0, 2, 0]),
+            (6, [7, 2, 1, ANY], [0, 2, 0]),
+            (7, [8, 2, 2, ANY], [0, 2, 0]),
+            (20, [21, 2, 15, ANY], [0, 2, 0]),
+        ],
+    ),
+    // 70 copies of a custody arrive from the fourth turn on. Before it the worker received three times and sent one
+    // datagram. The fourth turn receives 64 of the copies, and makes a release and a pick for them. The fifth
+    // receives the other six and then nothing.
+    (
+        "a turn hears what the link has, 64 packets at most, and makes one release for them",
+        [1, 1, 1_000, 1, 0, 0],
+        &[(3, OF_9, &[1]), (0, OF_9, &[1; 69])],
+        &[(0, TO_9, &[1, 1, 1])],
+        &[
+            (3, [3, 1, ANY, 4], [0, 1, 0]),
+            (4, [5, 1, ANY, 68], [0, 0, 1]),
+            (5, [6, 1, ANY, 75], [0, 0, 1]),
+            (6, [7, 1, ANY, 76], [0, 0, 1]),
+        ],
+    ),
+];
+
+/// Datagrams fetched together are sent together, and released together.
+#[test]
+fn a_window_goes_out_in_batches(rt: HostRuntime) {
+    expect_senders(&rt, rt.alloc(), &BATCHES);
+}
+
+const AGAIN: [Case<'static>; 2] = [
+    // The third turn sends the first of seven datagrams, and the seventh the last four. A second after the third
+    // turn the first is sent again, alone. Its custody is received two turns later, and in the turn after that the
+    // second is sent. Two seconds after the custody it is sent again: a number that was sent twice yields no
+    // sample.
+    (
+        "after a timeout what was on its way goes out again one by one",
+        [7, 7, 1_000, 10_000, 0, 0],
+        &[(104, OF_9, &[1])],
+        &[(0, TO_9, &[1, 2, 3, 4, 5, 6, 7, 1, 2, 2])],
+        &[
+            (7, [ANY, 7, ANY, ANY], [0, 7, 0]),
+            (102, [ANY, 7, ANY, ANY], [0, 7, 0]),
+            (103, [ANY, 8, ANY, ANY], [0, 7, 0]),
+            (104, [ANY, 8, ANY, ANY], [0, 7, 0]),
+            (105, [ANY, 8, ANY, ANY], [0, 6, 1]),
+            (106, [ANY, 9, ANY, ANY], [0, 6, 1]),
+            (304, [ANY, 9, ANY, ANY], [0, 6, 1]),
+            (305, [ANY, 10, ANY, ANY], [0, 6, 1]),
+        ],
+    ),
+    // The 23rd turn receives the first one's custody, a second after it was sent. From this the wait is 1 s + 4 *
+    // 0.5 s = 3 s, which is 60 turns.
+    (
+        "a custody that is heard when a timeout is due is released, and what is still in flight isn't sent before the next one",
+        [2, 2, 1_000, 50_000, 0, 0],
+        &[(22, OF_9, &[1])],
+        &[(0, TO_9, &[1, 2, 2])],
+        &[
+            (23, [ANY, 2, ANY, ANY], [0, 1, 1]),
+            (82, [ANY, 2, ANY, ANY], [0, 1, 1]),
+            (83, [ANY, 3, ANY, ANY], [0, 1, 1]),
+        ],
+    ),
+];
+
+/// The flight is sent again, one by one, and not while custody is received.
+#[test]
+fn a_window_goes_out_again_one_by_one(rt: HostRuntime) {
+    expect_senders(&rt, rt.alloc(), &AGAIN);
+}
+
+/// Seven datagrams wait, all of which fit the window. The asks are the window's; a Pick and its Fetch; two Picks
+/// and their Fetches; four Picks, which are asks 8 to 11; and their Fetches, which are asks 12 to 15.
+const SEVEN: Script<'static> = Script {
+    spool: Spool { first: 7, ..ONE },
+    window: 7,
+    sent: &[(0, TO_9, &[1, 2, 3, 4, 5, 6, 7])],
+    ..SENDER
+};
+
+const REFUSALS: [Script<'static>; 2] = [
+    // Fetch 5 of four is refused. Payloads fetched after it aren't sent, and are fetched again with it in the next
+    // turn.
+    Script {
+        shows: "a refused Fetch sends nothing",
+        lost: (13, Refusal::OutOfMemory),
+        rows: &[
+            (7, [15, 4, ANY, ANY], [0, 7, 0]),
+            (64, [18, 7, ANY, ANY], [0, 7, 0]),
+        ],
+        ..SEVEN
+    },
+    // Of four Picks the second is answered as unsure. So the window is asked for, which has the datagrams of all
+    // four, and the whole flight is sent.
+    Script {
+        shows: "a Pick that is unsure is found",
+        lost: (9, Refusal::Unsure),
+        sent: &[(0, TO_9, &[1, 2, 3, 1, 2, 3, 4, 5, 6, 7])],
+        rows: &[
+            (7, [12, 3, ANY, ANY], [0, 7, 0]),
+            (64, [19, 10, ANY, ANY], [0, 7, 0]),
+        ],
+        ..SEVEN
+    },
+];
+
+/// One call is refused, among others that are submitted together.
+#[test]
+fn one_call_is_refused(rt: HostRuntime) {
+    expect_scripts(&rt, rt.alloc(), &REFUSALS);
+}
+
+/// Without packets received the third turn sends the datagram. The first turn from a second after that on sends it
+/// again, and the first from two seconds after that on once more. All turns wait except the second and the third.
+const TIMEOUTS: [Case<'static>; 5] = [
+    (
+        "turns of 10 ms",
+        [1, 1, 1_000, 10_000, 0, 0],
+        &[],
+        &[(0, TO_9, &[1, 1, 1])],
+        &[
+            (102, [3, 1, 100, ANY], [0, 1, 0]),
+            (103, [4, 2, 101, ANY], [0, 1, 0]),
+            (302, [4, 2, 300, ANY], [0, 1, 0]),
+            (303, [5, 3, 301, ANY], [0, 1, 0]),
+        ],
+    ),
+    (
+        "turns of a little less",
+        [1, 1, 1_000, 9_999, 0, 0],
+        &[],
+        &[(0, TO_9, &[1, 1, 1])],
+        &[
+            (103, [3, 1, 101, ANY], [0, 1, 0]),
+            (104, [4, 2, 102, ANY], [0, 1, 0]),
+        ],
+    ),
+    (
+        "turns of 2.5 ms",
+        [1, 1, 1_000, 2_500, 0, 0],
+        &[],
+        &[(0, TO_9, &[1, 1, 1])],
+        &[
+            (402, [3, 1, 400, ANY], [0, 1, 0]),
+            (403, [4, 2, 401, ANY], [0, 1, 0]),
+        ],
+    ),
+    // The second begins once the call that fetched the datagram is answered.
+    (
+        "calls of 100 ms",
+        [1, 1, 1_000, 10_000, 100_000, 0],
+        &[],
+        &[(0, TO_9, &[1, 1, 1])],
+        &[
+            (102, [3, 1, 100, ANY], [0, 1, 0]),
+            (103, [4, 2, 101, ANY], [0, 1, 0]),
+        ],
+    ),
+    (
+        "turns of 50 ms",
+        [1, 1, 1_000, 50_000, 0, 0],
+        &[],
+        &[(0, TO_9, &[1, 1, 1])],
+        &[
+            (22, [3, 1, 20, ANY], [0, 1, 0]),
+            (23, [4, 2, 21, ANY], [0, 1, 0]),
+        ],
+    ),
+];
+
+/// The flight is sent again after a second, and then after twice as long, however many turns that takes.
+#[test]
+fn data_is_sent_again(rt: HostRuntime) {
+    expect_senders(&rt, rt.alloc(), &TIMEOUTS);
+}
+
+/// Packets that are no message for the sender, and a custody of a number not in flight. One comes in each turn, by
+/// the first of its two receives.
+const STRAYS: [&[Packets<'static>]; 3] = [
+    &[(0, b"x", &[1]), (1, b"x", &[1; 402])],
+    &[(0, TO_9, &[1]), (1, TO_9, &[1; 402])],
+    &[(0, OF_9, &[2]), (1, OF_9, &[2; 402])],
+];
+
+/// Checks these senders with these packets received.
+fn expect_silence<'a, R: Abort + Wait>(
+    rt: &R,
+    alloc: Global,
+    heard: &'a [Packets<'a>],
+    cases: &[Case<'a>],
+) {
+    for case in cases {
+        expect_sender(rt, alloc, *case, heard);
+    }
+}
+
+/// Checks these senders, whichever of these packets is received.
+fn expect_strays<'a, R: Abort + Wait>(
+    rt: &R,
+    alloc: Global,
+    strays: &[&'a [Packets<'a>]],
+    cases: &[Case<'a>],
+) {
+    for stray in strays {
+        expect_silence(rt, alloc, *stray, cases);
+    }
+}
+
+/// Whatever is received, the flight is sent as often as without packets, and the receives wait as often.
+#[test]
+fn strays_draw_nothing(rt: HostRuntime) {
+    expect_strays(&rt, rt.alloc(), &STRAYS, &TIMEOUTS);
+}
