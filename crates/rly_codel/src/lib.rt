@@ -2,8 +2,9 @@
 //! before one is delivered, and the new state.
 //!
 //! `dequeue` meets `specs/Cases.antt`, a table of cases without a loop; `law_cases_are_the_loop`
-//! proves it equal to the RFC's pseudocode. A `Lane` shows it the queue; `dequeue_with` takes drop
-//! times from the caller's `Control` of `rly_law`. Caller: `rly_machine`.
+//! proves it equal to the RFC's pseudocode. `dequeue_with` is `dequeue` with drop times from the
+//! caller's `Control` (`rly_law`), such as a table. Both read the queue through the trait `Lane`.
+//! Caller: `rly_machine`.
 #![tactic(auto)]
 
 mod discard;

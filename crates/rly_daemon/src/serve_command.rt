@@ -85,11 +85,11 @@ fn report_plan<H: Host, W: Write + Send, E: Write>(
     let keys = read_keys(rt, plan, path)?;
     let lines = shared_lines(rt.alloc())?;
     let (journal, size, tally) = open_tallied(rt, file, plan, &lines)?;
-    let word = OnceLock::new();
+    let stop_flag = OnceLock::new();
     let reports = Reports {
         seconds,
         tally,
-        word: &word,
+        stop_flag: &stop_flag,
     };
     match serve_reporting(
         rt, journal, plan, keys, turns, size, lines, reports, writer, errors,
@@ -122,7 +122,7 @@ fn reports_ended<E: Write>(turns: u64, end: ReporterEnd, errors: &mut E) -> Resu
 
 /// The log on standard error that the workers and the device share.
 fn shared_lines(alloc: Global) -> Result<Arc<ErrorLines, Global>, ServeFault> {
-    match ErrorLines::shared(alloc) {
+    match ErrorLines::new_shared(alloc) {
         Ok(lines) => Ok(lines),
         Err(refused) => Err(refused.into()),
     }

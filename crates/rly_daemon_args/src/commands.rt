@@ -11,15 +11,17 @@ use std::alloc::{AllocError, Global};
 /// Notes in the help of `sim` and `play`.
 const LINES: &str = "Each line of standard input is one command, and gets one reply line:
   take PEER NUMBER HOP STAMP PAYLOAD [LIMIT]
-                                       store a datagram; PAYLOAD is hexadecimal, or - for none
-  pick HOP NOW                         put the hop's next datagram in flight; some may expire or be dropped
-  done HOP NUMBER                      the next hop acknowledged the numbers up to this one
+                                       store a datagram that PEER sent under NUMBER (1, 2, 3, ..);
+                                       PAYLOAD is hexadecimal, or - for none
+  pick HOP NOW                         put the hop's next datagram in flight under the hop's next number;
+                                       some may expire or be dropped
+  done HOP NUMBER                      the hop acknowledged the numbers up to this one
   fetch HOP NUMBER                     print the payload in flight under this number
   window HOP                           print the first number in flight, and the next one
   show HOP                             print all counters of the hop
-Any other line gets `refused 16 line`. STAMP and NOW are microseconds of the hop's link clock.
-LIMIT is the maximum wait in the queue, in the same unit: a pick expires datagrams at the front of the
-queue that waited longer. 0 or no LIMIT = no limit.";
+Any other line gets `refused 16 line`. STAMP and NOW are microseconds of the hop's link clock, which
+runs only while a contact of the hop is open. LIMIT is the maximum wait in the queue, in the same
+unit: a pick expires datagrams at the front of the queue that waited longer. 0 or no LIMIT = no limit.";
 
 /// Notes in the help of `format`.
 const FORMATTED: &str =
@@ -30,8 +32,8 @@ Values out of their limits are refused (`refused 21 badgeometry`) before the fil
 /// Notes in the help of `audit`.
 const AUDITED: &str =
     "Prints a line for each hop, one for each peer, the count of accepted commands, and `balance ok`:
-each hop's taken datagrams wait, are in flight, were dropped, expired or were released, and the peers'
-last numbers add up to the number of datagrams taken. Locks the file, so it must be writable.";
+for each hop, taken = queued + in flight + dropped + expired + released, and the last numbers of all
+peers add up to the datagrams taken. Opens the file for writing to lock it, but writes nothing.";
 
 /// Notes in the help of `serve`.
 const SERVED: &str =
@@ -43,8 +45,8 @@ sync of the device it acknowledges nothing more, and exits with status 1.";
 /// Notes in the help of `key`.
 const KEYED: &str =
     "Prints a new random key: 64 hexadecimal digits and a newline. A plan names the key's file, and both
-ends of a link have the same key. Only the owner may have permissions on the file, so create it under
-`umask 077`.";
+ends of a link have the same key. Store it in a file that only its user may access (mode 0600): create
+it under `umask 077`.";
 
 /// Notes in the help of `plan`.
 const PLANNED: &str =
@@ -89,7 +91,7 @@ fn sim<'a>(alloc: Global) -> Result<Command<'a>, AllocError>
     let bare = command_with_help(
         alloc,
         "sim",
-        "Runs commands from standard input on a spool in memory",
+        "Runs commands from standard input on a store in memory",
         LINES,
     );
     with_params(alloc, Ok(bare))
@@ -164,7 +166,7 @@ fn serve<'a>(alloc: Global) -> Result<Command<'a>, AllocError>
     let bare = command_with_help(
         alloc,
         "serve",
-        "Relays datagrams between the neighbours of a plan, on the device in a file",
+        "Relays datagrams between the neighbours of a plan, and stores them in FILE",
         SERVED,
     );
     let with_file = with_path(alloc, Ok(bare), "file", "FILE", MADE);
@@ -174,7 +176,7 @@ fn serve<'a>(alloc: Global) -> Result<Command<'a>, AllocError>
         with_plan,
         "turns",
         "0",
-        "Stop after N loop turns of each peer and hop (each waits at most about 10 ms); 0 = run until stopped",
+        "Stop after N turns of each worker (a turn waits at most about 10 ms for a packet); 0 = run until stopped",
     );
     with_option(
         alloc,

@@ -68,7 +68,7 @@ pub(crate) fn run_beside<
     plan: &Plan,
     work: Work<D, L, T, K>,
     task: S,
-    word: &OnceLock<bool>,
+    stop_flag: &OnceLock<bool>,
 ) -> Both<D, L, T, K, A>
     requires run { S.can_run task }
     requires work { CanRelay work }
@@ -84,7 +84,7 @@ pub(crate) fn run_beside<
             ensures gives { S.run_gives task result.output }
             ensures relayed { HasRelayed D.state L.heard L.sent T.told T.endless K.woken plan.entry.now work
                 result.relayed }
-        { run_in(scope, rt, alloc, plan, work, task, word) },
+        { run_in(scope, rt, alloc, plan, work, task, stop_flag) },
     )
 }
 
@@ -106,7 +106,7 @@ fn run_in<
     plan: &Plan,
     work: Work<D, L, T, K>,
     task: S,
-    word: &OnceLock<bool>,
+    stop_flag: &OnceLock<bool>,
 ) -> Both<D, L, T, K, A>
     requires run { S.can_run task }
     requires work { CanRelay work }
@@ -124,7 +124,7 @@ fn run_in<
     );
     match started {
         Ok(thread) => {
-            let relayed = relay(rt, alloc, plan, work, word, 0);
+            let relayed = relay(rt, alloc, plan, work, stop_flag, 0);
             Both {
                 relayed,
                 output: thread.join(rt),
@@ -132,7 +132,7 @@ fn run_in<
             }
         }
         Err(refused) => {
-            let relayed = relay(rt, alloc, plan, work, word, 1);
+            let relayed = relay(rt, alloc, plan, work, stop_flag, 1);
             let task = refused.value;
             Both {
                 relayed,
@@ -155,7 +155,7 @@ fn relay<
     alloc: Global,
     plan: &Plan,
     work: Work<D, L, T, K>,
-    word: &OnceLock<bool>,
+    stop_flag: &OnceLock<bool>,
     gone: usize,
 ) -> Result<Relayed<D, L, T, K>, Journal<D>>
     requires { CanRelay work }
@@ -169,7 +169,7 @@ fn relay<
     } = work;
     let mut line_end = line_end;
     line_end.forget(gone);
-    run_relay_at(rt, alloc, journal, plan, posts, seats, line_end, word)
+    run_relay_at(rt, alloc, journal, plan, posts, seats, line_end, stop_flag)
 }
 
 /// The result of a task's thread.

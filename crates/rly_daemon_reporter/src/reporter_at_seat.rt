@@ -98,7 +98,7 @@ pub fn run_reported<
     pace: P,
     counters: C,
     writer: &mut W,
-    word: &OnceLock<bool>,
+    stop_flag: &OnceLock<bool>,
 ) -> Result<Reported<D, L, T, K, P, C>, Journal<D>>
     requires count { (1 ≤ length posts.items) × (length posts.items ≤ 255) }
     requires sound { IsSoundPlan plan.now }
@@ -138,7 +138,7 @@ pub fn run_reported<
         relayed,
         output: (writer, left),
         had_thread,
-    } = run_beside(rt, alloc, plan, work, watch, word);
+    } = run_beside(rt, alloc, plan, work, watch, stop_flag);
     take_back(writer);
     let mut relayed = relayed?;
     let seat = Snapshot::of(&left.seat);

@@ -1,7 +1,7 @@
 //! Runs the relay of a station on a journal until its workers have ended. `serve` logs the startup
-//! lines, starts the workers at their posts, and returns their results (`specs/ServedRelay.antt`);
-//! `serve_reporting` also runs a reporter (`specs/ReportedRelay.antt`). Caller: `rly_daemon`,
-//! whose disk is a file.
+//! lines, starts the workers, each with its link and its clock, and returns their results
+//! (`specs/ServedRelay.antt`); `serve_reporting` also runs a reporter (`specs/ReportedRelay.antt`).
+//! Caller: `rly_daemon`, whose disk is a file.
 #![tactic(auto)]
 
 mod reported_relay;

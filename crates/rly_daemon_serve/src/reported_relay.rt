@@ -63,7 +63,7 @@ pub struct Reports<'o> {
     /// The counters of the workers.
     pub tally: Arc<Tally, Global>,
     /// The stop flag of the relay, set once it ends.
-    pub word: &'o OnceLock<bool>,
+    pub stop_flag: &'o OnceLock<bool>,
 }
 
 /// The same as `serve`, with a report to a writer at once, and one every `seconds` seconds. If the turns are
@@ -125,9 +125,9 @@ pub fn serve_reporting<
     let Reports {
         seconds,
         tally,
-        word,
+        stop_flag,
     } = reports;
-    let pace = WallReportClock::new(rt, word, seconds, turns);
+    let pace = WallReportClock::new(rt, stop_flag, seconds, turns);
     run_tallied(
         rt,
         rt.alloc(),
@@ -137,7 +137,7 @@ pub fn serve_reporting<
         pace,
         tally,
         writer,
-        word,
+        stop_flag,
         is_told,
     )
 }
@@ -162,7 +162,7 @@ fn run_tallied<
     pace: P,
     counters: C,
     writer: &mut W,
-    word: &OnceLock<bool>,
+    stop_flag: &OnceLock<bool>,
     is_told: bool,
 ) -> Result<Reported<D, L, T, K, P, C>, (ServeFault, D)>
     requires count { (1 ≤ length posts.items) × (length posts.items ≤ 255) }
@@ -177,7 +177,7 @@ fn run_tallied<
         × IsAnsweredBy r.relayed.finished.last.value.line r.watched.seat.value) }
 {
     match run_reported(
-        rt, alloc, journal, plan, posts, pace, counters, writer, word,
+        rt, alloc, journal, plan, posts, pace, counters, writer, stop_flag,
     ) {
         Ok(reported) => {
             let is_complete = reported.relayed.complete && reported.had_thread;

@@ -11,16 +11,16 @@ use std::time::{Clock, Duration};
 /// The length of one sleep, in milliseconds: the maximum delay until it notices that the relay has ended.
 const NAP: u64 = 10;
 
-/// Schedules reports by the monotonic clock: one at once, and one every `seconds` seconds; the second may come sooner
-/// after boot. It ends once the stop flag of the relay is set, or after a number of sleeps.
+/// Schedules reports by the monotonic clock: one at once, and one every `seconds` seconds. It ends once the stop flag of
+/// the relay is set, or after a number of sleeps.
 #[derive(Drop)]
 pub struct WallReportClock<'a, C: Clock + Drop> {
     clock: C,
-    word: &'a OnceLock<bool>,
+    stop_flag: &'a OnceLock<bool>,
     /// Microseconds between two reports.
     every: u64,
-    /// The time of the next one, by the monotonic clock.
-    due: u64,
+    /// The time of the next one, by the monotonic clock. The first one is due at once.
+    due: Option<u64>,
     /// The remaining sleeps: no limit if there is no number.
     naps: Option<u64>,
     // The schedule so far, which takes no memory.
@@ -31,7 +31,7 @@ impl<'a, C: Clock + Drop> WallReportClock<'a, C> {
     /// A report every `seconds` seconds, with at most `naps` sleeps: no limit if 0.
     pub fn new(
         clock: C,
-        word: &'a OnceLock<bool>,
+        stop_flag: &'a OnceLock<bool>,
         seconds: u64,
         naps: u64,
     ) -> WallReportClock<'a, C>
@@ -39,9 +39,9 @@ impl<'a, C: Clock + Drop> WallReportClock<'a, C> {
     {
         WallReportClock {
             clock,
-            word,
+            stop_flag,
             every: seconds.saturating_mul(1_000_000),
-            due: 0,
+            due: None,
             naps: if naps == 0 { None } else { Some(naps) },
             told: Log::new(),
         }
@@ -52,12 +52,13 @@ impl<'a, C: Clock + Drop> WallReportClock<'a, C> {
         ensures { self.new ≡ record self.old { due = self.new.due; naps = self.new.naps } }
     {
         for _nap in rt.forever() {
-            if self.word.get().is_some() {
+            if self.stop_flag.get().is_some() {
                 return None;
             }
             let passed = moment_of(self.clock.monotonic().ok());
-            if self.due <= passed {
-                self.due = next_due(self.due, passed, self.every);
+            let due = self.due.unwrap_or(passed);
+            if due <= passed {
+                self.due = Some(next_due(due, passed, self.every));
                 return Some(moment_of(self.clock.since_1970().ok()));
             }
             if !self.nap() {

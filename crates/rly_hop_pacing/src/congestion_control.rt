@@ -104,7 +104,7 @@ impl CongestionControl {
     }
 
     /// Reports that the core sent a number, whether or not the packet left.
-    pub fn sent(&mut self, number: u64, at: u64)
+    pub fn on_sent(&mut self, number: u64, at: u64)
         ensures { self.new ≡ on_sent self.old number at }
     {
         self.timer.sent(self.flight, number, at);
@@ -113,7 +113,7 @@ impl CongestionControl {
 
     /// Reports a custody of the numbers up to `last`, from the hop's station to the own one. One that covers no
     /// number in flight changes nothing.
-    pub fn covered(&mut self, last: u64, at: u64)
+    pub fn on_covered(&mut self, last: u64, at: u64)
         ensures { self.new ≡ on_covered self.old last at }
     {
         if self.flight.covers(last) {

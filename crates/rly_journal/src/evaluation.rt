@@ -199,7 +199,7 @@ fn answer_long(alloc: Global, index: &mut Index, command: Command<Payload>) -> R
 {
     index.law_index();
     let placed = inline_command(command);
-    let used = index.used();
+    let used = index.used_until();
     match index.reserve_for(alloc, &placed) {
         Ok(room) => index.apply(placed, room, used),
         Err(_) => Reply::Refused(Refusal::OutOfMemory),

@@ -110,7 +110,7 @@ impl Index {
     }
 
     /// Returns the device offset up to which the current segment is used.
-    pub fn used(&self) -> u64
+    pub fn used_until(&self) -> u64
         ensures { result ≡ self.now.used }
     {
         self.used

@@ -1,10 +1,11 @@
-//! Relocation: before a segment is reused, the live payloads of the victim (the segment to clean)
-//! are copied into the head (checkpoint) of the next segment.
+//! Relocation: when the journal opens a segment, the live payloads of another one, the victim, go
+//! into the new segment's head (checkpoint), so that the victim can be overwritten later.
 //!
-//! `collect_victim` reads them into a copy of the spool (`specs/Collection.antt`); `relocate_all`
-//! gives each its new device address once that head is written (`specs/Relocation.antt`);
-//! `relocate_read` does the same for a head that was read. `law_relocated`: afterwards the victim
-//! holds no live payload. Writes no device. Callers: `rly_journal` and `rly_journal_index`.
+//! `collect_victim` reads these payloads into a copy of the spool (`specs/Collection.antt`), from
+//! which `rly_segment::open_segment` writes the head. Then `relocate_all` gives each its new device
+//! address in memory (`specs/Relocation.antt`); `relocate_read` does the same for a head that was
+//! read. `law_relocated`: afterwards the victim holds no live payload. Callers: `rly_journal` and
+//! `rly_journal_index`.
 #![tactic(auto)]
 
 mod collection;

@@ -143,7 +143,7 @@ impl Answers {
     }
 
     /// The number of answers expected.
-    pub fn wanted(&self) -> usize
+    pub fn expected_len(&self) -> usize
         ensures count { result ≡ self.now.wanted }
         ensures some { IsIn 1 64 result }
     {

@@ -1,8 +1,9 @@
 //! The submission queue: threads, each with a `Seat` (a client handle), put batches of 1 to 64
 //! calls into one bounded queue (`specs/Submission.antt`), and get answers through a queue of
 //! their own (`specs/Replies.antt`). One thread answers, with a `Responder` over a `LineEnd`. The
-//! answers of each seat are a prefix of one history, legal except for the bytes of a Fetch
-//! (`docs/CLAIMS.md`). Callers: `rly_flush`, `rly_threads` and above, by `Seat::call_all`.
+//! history that each seat knows is a prefix of one legal history of all calls; the bytes of a Fetch
+//! are outside of that (`docs/CLAIMS.md`). Callers: `rly_flush` by `Responder`, `rly_threads` and
+//! above by `Seat::call_all`.
 #![tactic(auto)]
 
 mod batch;

@@ -90,7 +90,7 @@ impl<T: HasState> Responder<T> {
         ensures history { self.new.history ≡ self.old.history ++ zip (calls_in_batch batch.now.value) answers.answers }
         ensures holds { IsOneResponder self.new }
     {
-        let _some = answers.wanted();
+        let _some = answers.expected_len();
         self.story.push(batch, &answers);
         self.line.tell(rt, answers, &self.story);
     }

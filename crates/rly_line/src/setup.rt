@@ -18,8 +18,8 @@ pub fn make(alloc: Global, capacity: u16, seats: u16) -> Result<(Vec<Seat>, Line
     ensures seats { IfOk result (λ made. made.0.items ≡ new_callers made.1.of 0 (names_of made.1.lines)) }
     ensures count { IfOk result (λ made. length made.1.lines ≡ seats) }
     ensures capacity { IfOk result (λ made. made.1.capacity ≡ capacity) }
-    ensures end { IfOk result
-        (λ made. made.1 ≡ record made.1 { taken = []; lines = new_reply_ends 0 (names_of made.1.lines); over = false }) }
+    ensures end { IfOk result (λ made. made.1
+        ≡ record made.1 { taken = []; lines = new_reply_ends 0 (names_of made.1.lines); over = false }) }
 {
     let mut line = Line::new(alloc, capacity as usize)?;
     let mut made = Vec::with_capacity(alloc, seats as usize)?;

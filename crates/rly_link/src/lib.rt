@@ -1,9 +1,10 @@
-//! A worker's connection to the world: its identity, its link to one neighbour, its clock and its
-//! waker. `Link` sends and receives packets; `Turn` gives a worker its time and its stop flag;
-//! `Waker` wakes the sender of a hop that has a new datagram. The crates above implement them over
-//! sockets, keys and system clocks, and may record ghost histories for the contracts
-//! (`specs/LinkHistory.antt`); `MemLink`, `MemTurn` and `MemWaker`, for tests, record all.
-//! Callers: `rly_threads_workers`, links over other links, and each crate that makes a `Post`.
+//! The interfaces of a worker: `Link` sends and receives packets to and from one neighbour, and may
+//! lose or reorder them; `Turn` is its clock, whose monotonic time never falls, and its stop flag;
+//! `Waker` wakes the sender of a hop that has a new datagram. A `Post` is a worker's identity with
+//! one of each. An implementation may record its calls for the contracts (a ghost history,
+//! `specs/LinkHistory.antt`); `MemLink`, `MemTurn` and `MemWaker`, for tests, record all.
+//! Callers: `rly_threads_workers`. Implementations: `rly_link_udp`, `rly_link_auth`,
+//! `rly_link_reorder`, `rly_daemon_reporter`.
 #![tactic(auto)]
 
 mod link;

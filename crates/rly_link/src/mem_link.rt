@@ -47,7 +47,7 @@ impl MemLink {
     }
 
     /// The packets that were sent without a failure, in order.
-    pub fn delivered(&self) -> &[Vec<u8>]
+    pub fn deliveries(&self) -> &[Vec<u8>]
         ensures { result.now ≡ self.now.delivered.items }
     {
         &self.delivered

@@ -32,7 +32,8 @@ impl<L: Link> Model for ReorderedLink<L> {
 
     ghost Value = { ReorderedView L };
 
-    ghost view = { λ a. record { link = a.link; own = a.own; peer = a.peer; early = a.early; given = heard_of a.given } };
+    ghost view = { λ a.
+        record { link = a.link; own = a.own; peer = a.peer; early = a.early; given = heard_of a.given } };
 }
 
 impl<L: Link> ReorderedLink<L> {

@@ -112,12 +112,12 @@ fn socket_of<'a, H: Net + Clock>(
     ensures sends { IfOk result
         (λ link. option_map known_of link.failed_sends ≡ Some (none_yet (SystemCall.Send worker))) }
 {
-    let bell = wakeup_of(worker, signals)?;
+    let wakeup = wakeup_of(worker, signals)?;
     let teller = signals.logger()?;
     match UdpLink::open(rt, rt, addresses) {
         Ok(socket) => {
             let failed_sends = FailedCalls::new(SystemCall::Send(worker), teller);
-            Ok(socket.with_wakeup(bell).with_failed_sends(failed_sends))
+            Ok(socket.with_wakeup(wakeup).with_failed_sends(failed_sends))
         }
         Err(fault) => Err(fault_of_link(alloc, worker, addresses, fault)),
     }

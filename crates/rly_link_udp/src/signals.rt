@@ -14,7 +14,7 @@ use std::sync::Arc;
 /// The wakers of a station's hops, and its log. Each worker shares both, and the device shares the log.
 #[derive(Drop)]
 pub(crate) struct Signals {
-    bells: Arc<Wakeups, Global>,
+    wakeups: Arc<Wakeups, Global>,
     lines: Arc<ErrorLines, Global>,
 }
 
@@ -28,16 +28,16 @@ impl Signals {
     ) -> Result<Signals, ServeFault>
         requires { IsSoundPlan plan.now }
     {
-        let bells = Wakeups::open(net, alloc, plan)?;
-        match Arc::new(alloc, bells) {
-            Ok(bells) => Ok(Signals { bells, lines }),
+        let wakeups = Wakeups::open(net, alloc, plan)?;
+        match Arc::new(alloc, wakeups) {
+            Ok(wakeups) => Ok(Signals { wakeups, lines }),
             Err(_) => Err(AllocError.into()),
         }
     }
 
     /// A share of the wakers.
     pub(crate) fn wakeups(&self) -> Result<Arc<Wakeups, Global>, AllocError> {
-        self.bells.clone()
+        self.wakeups.clone()
     }
 
     /// The logger of a worker.

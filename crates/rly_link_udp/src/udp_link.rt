@@ -45,7 +45,7 @@ pub struct UdpLink<C: Clock + Drop> {
     /// Its failed sends, if they are logged.
     failed_sends: Option<FailedCalls>,
     /// The waker that ends its waits, and the hop of the link, if it has one.
-    bell: Option<(Arc<Wakeups, Global>, HopId)>,
+    wakeup: Option<(Arc<Wakeups, Global>, HopId)>,
     addresses: Snapshot<Addresses>,
 }
 
@@ -67,16 +67,16 @@ impl<C: Clock + Drop> UdpLink<C> {
             waited: Duration::ZERO,
             given: 0,
             failed_sends: None,
-            bell: None,
+            wakeup: None,
             addresses: Snapshot::of(addresses),
         })
     }
 
     /// The same, with the waker of a hop, if there is one, to end its waits.
-    pub(crate) fn with_wakeup(mut self, bell: Option<(Arc<Wakeups, Global>, HopId)>) -> UdpLink<C>
-        ensures { result ≡ record self { bell = result.bell } }
+    pub(crate) fn with_wakeup(mut self, wakeup: Option<(Arc<Wakeups, Global>, HopId)>) -> UdpLink<C>
+        ensures { result ≡ record self { wakeup = result.wakeup } }
     {
-        self.bell = bell;
+        self.wakeup = wakeup;
         self
     }
 
@@ -94,13 +94,13 @@ impl<C: Clock + Drop> UdpLink<C> {
         ensures same { self.new ≡ record self.old { waits = self.new.waits } }
         ensures spent { self.old.failures ≡ 2 ^ 64 - 1 → IsErr result }
     {
-        let waits = match &self.bell {
-            Some((bells, hop)) => bells.begin_wait(*hop),
+        let waits = match &self.wakeup {
+            Some((wakeups, hop)) => wakeups.begin_wait(*hop),
             None => true,
         };
         let outcome = self.receive(waits, buffer);
-        if let Some((bells, hop)) = &self.bell {
-            bells.end_wait(*hop);
+        if let Some((wakeups, hop)) = &self.wakeup {
+            wakeups.end_wait(*hop);
         }
         outcome
     }

@@ -29,7 +29,7 @@ const WOKEN: u64 = 3;
 /// A waker for each hop of a plan.
 #[derive(Drop)]
 pub(crate) struct Wakeups {
-    bells: Vec<Wakeup>,
+    wakeups: Vec<Wakeup>,
 }
 
 impl Wakeups {
@@ -37,12 +37,12 @@ impl Wakeups {
     pub(crate) fn open<N: Net>(net: &N, alloc: Global, plan: &Plan) -> Result<Wakeups, ServeFault>
         requires { IsSoundPlan plan.now }
     {
-        let mut bells = Vec::new(alloc);
+        let mut wakeups = Vec::new(alloc);
         for index in 0..plan.hop_count() as u16 {
             if let Some(neighbour) = plan.hop(HopId(index + 1)) {
                 let addresses = &neighbour.addresses;
                 match Wakeup::open(net, addresses.listen()) {
-                    Ok(bell) => bells.push(bell).map_err(|_| AllocError)?,
+                    Ok(wakeup) => wakeups.push(wakeup).map_err(|_| AllocError)?,
                     Err(error) => {
                         let fault = EndFault {
                             end: End::Listen,
@@ -54,42 +54,42 @@ impl Wakeups {
                 }
             }
         }
-        Ok(Wakeups { bells })
+        Ok(Wakeups { wakeups })
     }
 
     /// A datagram was stored for a hop: if the hop's sender asked something since its last wait, this ends its
     /// current wait, or else the next one.
     pub(crate) fn wake(&self, hop: HopId) {
-        if let Some(bell) = self.at(hop) {
-            bell.wake();
+        if let Some(wakeup) = self.at(hop) {
+            wakeup.wake();
         }
     }
 
     /// A hop's sender is about to ask something.
     pub(crate) fn listen(&self, hop: HopId) {
-        if let Some(bell) = self.at(hop) {
-            bell.state.store(LISTENING, Ordering::SeqCst);
+        if let Some(wakeup) = self.at(hop) {
+            wakeup.state.store(LISTENING, Ordering::SeqCst);
         }
     }
 
     /// A hop's link is about to wait. Returns whether it may: not if it was woken.
     pub(crate) fn begin_wait(&self, hop: HopId) -> bool {
         match self.at(hop) {
-            Some(bell) => bell.is_idle() || bell.state.swap(WAITING, Ordering::SeqCst) != WOKEN,
+            Some(wakeup) => wakeup.is_idle() || wakeup.state.swap(WAITING, Ordering::SeqCst) != WOKEN,
             None => true,
         }
     }
 
     /// A hop's link no longer waits.
     pub(crate) fn end_wait(&self, hop: HopId) {
-        if let Some(bell) = self.at(hop) {
-            bell.state.store(IDLE, Ordering::SeqCst);
+        if let Some(wakeup) = self.at(hop) {
+            wakeup.state.store(IDLE, Ordering::SeqCst);
         }
     }
 
     /// The waker of a hop.
     fn at(&self, hop: HopId) -> Option<&Wakeup> {
-        self.bells.get(usize::from(hop.0).checked_sub(1)?)
+        self.wakeups.get(usize::from(hop.0).checked_sub(1)?)
     }
 }
 

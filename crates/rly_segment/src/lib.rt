@@ -1,9 +1,10 @@
-//! The device format: a header, and 2 to 256 segments; each begins with a head (checkpoint
-//! header).
+//! The device format: a header, and 2 to 256 segments; each begins with a head (a checkpoint).
 //!
 //! `read_header`, `newest`, `read_head` and `read_placed_head` check what they read
-//! (`specs/Answers.antt`). `format` makes a device. `open_segment` writes a head, so that a crash
-//! leaves it whole, or none that is newer (`law_opening`). Callers: the journal and the program.
+//! (`specs/Answers.antt`). `format` makes a device. `open_segment` writes a head: after a crash the
+//! segment has the complete new head, or no head that is newer than the last one (`law_opening`).
+//! Callers: `rly_journal`, `rly_journal_index` and `rly_journal_relocate`; `rly_daemon` and
+//! `rly_daemon_commands` for `format` and `audit`.
 #![tactic(auto)]
 
 mod formatter;

@@ -190,7 +190,8 @@ fn codel_bytes(codel: &CodelState) -> [u8; CODEL_LENGTH]
 fn counts_bytes<C: Form>(hop: &Hop<C>) -> [u8; COUNTS_LENGTH]
     requires { HopFits HeadForm.Second C.length_of (C.has_form HeadForm.Second) (hop_state hop.now) }
     ensures { let h = hop_state hop.now in result ≡ big_bytes 6 h.taken ++ big_bytes 6 h.dropped
-        ++ big_bytes 6 h.released ++ big_bytes 6 h.expired ++ big_bytes 2 (length h.flight) ++ big_bytes 4 (length h.queue) }
+        ++ big_bytes 6 h.released ++ big_bytes 6 h.expired
+        ++ big_bytes 2 (length h.flight) ++ big_bytes 4 (length h.queue) }
 {
     let mut bytes = [0; COUNTS_LENGTH];
     BigEndian::write_uint(&mut bytes, hop.taken, 6);

@@ -30,7 +30,7 @@ pub struct ErrorLines {
 
 impl ErrorLines {
     /// The log of a station, shared by its workers and the device.
-    pub fn shared(alloc: Global) -> Result<Arc<ErrorLines, Global>, AllocError> {
+    pub fn new_shared(alloc: Global) -> Result<Arc<ErrorLines, Global>, AllocError> {
         let lines = ErrorLines {
             alloc,
             state: AtomicU64::new(FREE),

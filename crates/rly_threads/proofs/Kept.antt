@@ -73,13 +73,13 @@ all_there Gives (Some t ∷ threads) (None ∷ results) gave = absurd gave.0
 all_there Gives (Some t ∷ threads) (Some r ∷ results) gave = all_there Gives threads results gave.1
 
 told_one : {L T W : Type 0} (plan : ContactPlan) (params : Params) (lock said : ℕ) → said ≡ lock → (given : Post L T W × Caller) (thread : Option (PromisedHandle (Left L T W) (Duty L T W))) → IsFor plan params lock given thread
-    → IfSome thread (λ t. t.promise.word.value.id ≡ said)
+    → IfSome thread (λ t. t.promise.stop_flag.value.id ≡ said)
 told_one plan params lock said same given None is_for = tt
 told_one plan params lock said same given (Some thread) is_for = is_for.3 ∙ sym same
 
 -- each read that flag
 pub all_told : {L T W : Type 0} (plan : ContactPlan) (params : Params) (lock said : ℕ) → said ≡ lock → (given : List (Post L T W × Caller)) (threads : List (Option (PromisedHandle (Left L T W) (Duty L T W))))
-    → AllZip (IsFor plan params lock) given threads → AllByRecursion (λ thread. IfSome thread (λ t. t.promise.word.value.id ≡ said)) threads
+    → AllZip (IsFor plan params lock) given threads → AllByRecursion (λ thread. IfSome thread (λ t. t.promise.stop_flag.value.id ≡ said)) threads
 all_told plan params lock said same given threads are_for = second_all _ _ (told_one plan params lock said same) given threads are_for
 
 -- a property of an outcome, restated

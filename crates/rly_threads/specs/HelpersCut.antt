@@ -76,7 +76,7 @@ abbrev pub IsFor : {L T W : Type 0} → ContactPlan → Params → ℕ → Post 
     → Option (PromisedHandle (Left L T W) (Duty L T W)) → Type 0
 IsFor plan params lock given thread =
     IfSome thread (λ t. (t.promise.plan.value ≡ plan) × (t.promise.params ≡ params) × (t.promise.post.value ≡ given.0)
-    × (t.promise.word.value.id ≡ lock) × (t.promise.seat.value ≡ given.1))
+    × (t.promise.stop_flag.value.id ≡ lock) × (t.promise.seat.value ≡ given.1))
 
 -- the result of a worker, if it had a thread
 abbrev pub GivesBack : {H R : Type 0} → (H → R → Type 0) → Option H → Option R → Type 0

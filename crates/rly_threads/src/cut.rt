@@ -13,15 +13,15 @@ use std::sync::{OnceLock, OnceToken, Wait};
 /// Sets the stop flag of a relay: whether its workers end at their next turns. It is set once, for all of them.
 pub(crate) fn tell_workers<'a, R: Wait>(
     rt: &R,
-    word: &'a OnceLock<bool>,
+    stop_flag: &'a OnceLock<bool>,
     cut: bool,
 ) -> OnceToken<'a, bool>
-    ensures of { result.of ≡ word.now.id }
+    ensures of { result.of ≡ stop_flag.now.id }
     ensures value { result.value ≡ cut }
 {
     for _try in rt.forever() {
         // Nobody else sets it, so the first try is the last.
-        if let Ok(said) = word.set(rt, cut) {
+        if let Ok(said) = stop_flag.set(rt, cut) {
             return said;
         }
     }
@@ -63,7 +63,7 @@ impl TurnOwner for Brand {
 #[derive(Drop)]
 pub(crate) struct CutTurn<'a, T: Turn, W: TurnOwner> {
     turn: T,
-    word: &'a OnceLock<bool>,
+    stop_flag: &'a OnceLock<bool>,
     /// The stop flag as read at the stop, if it was.
     heard: Option<OnceToken<'a, bool>>,
     whose: PhantomData<W>,
@@ -76,23 +76,24 @@ impl<'a, T: Turn, W: TurnOwner> Model for CutTurn<'a, T, W> {
 
     ghost Value = { CutView T };
 
-    ghost view = { λ c. record { turn = c.turn; lock = c.word.now.id; heard = c.heard; looks = looks_in c.looks } };
+    ghost view = { λ c.
+        record { turn = c.turn; lock = c.stop_flag.now.id; heard = c.heard; looks = looks_in c.looks } };
 
     ghost invariant = { λ c. IsCutting T.told T.endless W.first W.endless W.lock
-        (record { turn = c.turn; lock = c.word.now.id; heard = c.heard; looks = looks_in c.looks }) };
+        (record { turn = c.turn; lock = c.stop_flag.now.id; heard = c.heard; looks = looks_in c.looks }) };
 }
 
 impl<'a, T: Turn + Drop, W: TurnOwner> CutTurn<'a, T, W> {
     /// This clock, which stops once the flag says that the relay is cut.
-    pub(crate) fn new(turn: T, word: &'a OnceLock<bool>) -> CutTurn<'a, T, W>
+    pub(crate) fn new(turn: T, stop_flag: &'a OnceLock<bool>) -> CutTurn<'a, T, W>
         requires first { T.told turn ≡ W.first }
         requires endless { T.endless turn ≡ W.endless }
-        requires lock { word.now.id ≡ W.lock }
-        ensures { result ≡ record { turn = turn; lock = word.now.id; heard = None; looks = [] } }
+        requires lock { stop_flag.now.id ≡ W.lock }
+        ensures { result ≡ record { turn = turn; lock = stop_flag.now.id; heard = None; looks = [] } }
     {
         CutTurn {
             turn,
-            word,
+            stop_flag,
             heard: None,
             whose: PhantomData,
             looks: Log::new(),
@@ -107,7 +108,7 @@ impl<'a, T: Turn + Drop, W: TurnOwner> CutTurn<'a, T, W> {
     {
         let CutTurn {
             turn,
-            word: _word,
+            stop_flag: _stop_flag,
             heard,
             whose: _whose,
             looks: _looks,
@@ -135,7 +136,7 @@ impl<'a, T: Turn + Drop, W: TurnOwner> Turn for CutTurn<'a, T, W> {
     {
         let go = self.turn.between(rt, worker, point);
         let heard = match (point, go.on) {
-            (Point::Start, true) => heard_end(self.word),
+            (Point::Start, true) => heard_end(self.stop_flag),
             _ => None,
         };
         let is_cut = heard.is_some();
@@ -151,9 +152,9 @@ impl<'a, T: Turn + Drop, W: TurnOwner> Turn for CutTurn<'a, T, W> {
 }
 
 /// The stop flag, if it says that the relay is cut.
-fn heard_end<'a>(word: &'a OnceLock<bool>) -> Option<OnceToken<'a, bool>>
-    ensures { IsHeard word.now.id result }
+fn heard_end<'a>(stop_flag: &'a OnceLock<bool>) -> Option<OnceToken<'a, bool>>
+    ensures { IsHeard stop_flag.now.id result }
 {
-    let said = word.witness()?;
-    if *word.value(&said) { Some(said) } else { None }
+    let said = stop_flag.witness()?;
+    if *stop_flag.value(&said) { Some(said) } else { None }
 }

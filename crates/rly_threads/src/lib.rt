@@ -1,7 +1,7 @@
-//! The relay: the committer and the workers of a plan, each in a thread of its own. `run_relay`
-//! starts them, waits for them, and returns their results: each worker kept the contract of
-//! `rly_threads_workers` over its seat in the submission queue (`specs/Relay.antt`). Once the
-//! journal is broken, all workers stop (`specs/Cut.antt`). That they run in parallel is only
+//! The relay: the workers of a plan, each in a thread of its own, and the committer in the calling
+//! thread. `run_relay` starts them, waits for them, and returns their results: each worker kept the
+//! contract of `rly_threads_workers` over its seat in the submission queue (`specs/Relay.antt`). Once
+//! the journal is broken, all workers stop (`specs/Cut.antt`). That they run in parallel is only
 //! tested. Callers: `rly_daemon_reporter` and `rly_daemon_serve`.
 #![tactic(auto)]
 

@@ -77,8 +77,8 @@ pub fn run_relay<
     let Ok((seats, line_end)) = make(alloc, workers, workers) else {
         return Err(journal);
     };
-    let word = OnceLock::new();
-    run_relay_at(rt, alloc, journal, plan, posts, seats, line_end, &word)
+    let stop_flag = OnceLock::new();
+    run_relay_at(rt, alloc, journal, plan, posts, seats, line_end, &stop_flag)
 }
 
 /// The same as `run_relay`, at the end of a new queue and with a stop flag of the caller's. Each worker gets the
@@ -99,7 +99,7 @@ pub fn run_relay_at<
     posts: Vec<Post<L, T, W>>,
     seats: Vec<Seat>,
     line_end: LineEnd,
-    word: &OnceLock<bool>,
+    stop_flag: &OnceLock<bool>,
 ) -> Result<Relayed<D, L, T, W>, Journal<D>>
     requires each { length seats.items ≡ length posts.items }
     requires seats { AllByRecursion (IsSeatOf line_end.of (names_of line_end.lines)) seats.items }
@@ -124,7 +124,7 @@ pub fn run_relay_at<
             ensures refused { IfErr result (λ back. back ≡ journal) }
         {
             relay_in(
-                scope, rt, alloc, journal, plan, posts, seats, line_end, word,
+                scope, rt, alloc, journal, plan, posts, seats, line_end, stop_flag,
             )
         },
     )
@@ -149,7 +149,7 @@ fn relay_in<
     posts: Vec<Post<L, T, W>>,
     seats: Vec<Seat>,
     line_end: LineEnd,
-    word: &'a OnceLock<bool>,
+    stop_flag: &'a OnceLock<bool>,
 ) -> Result<Relayed<D, L, T, W>, Journal<D>>
     requires each { length seats.items ≡ length posts.items }
     requires seats { AllByRecursion (IsSeatOf line_end.of (names_of line_end.lines)) seats.items }
@@ -161,28 +161,28 @@ fn relay_in<
 {
     let params = journal.params();
     let Ok(threads) = Vec::with_capacity(alloc, posts.len()) else {
-        call_off(rt, line_end, word);
+        call_off(rt, line_end, stop_flag);
         return Err(journal);
     };
     let Ok(ended) = Vec::with_capacity(alloc, posts.len()) else {
-        call_off(rt, line_end, word);
+        call_off(rt, line_end, stop_flag);
         return Err(journal);
     };
     let flusher = match Flusher::new(alloc, journal, line_end) {
         Ok(flusher) => flusher,
         Err((journal, line_end)) => {
-            call_off(rt, line_end, word);
+            call_off(rt, line_end, stop_flag);
             return Err(journal);
         }
     };
-    let threads = start_all(scope, rt, alloc, plan, params, posts, seats, word, threads);
-    Ok(serve_to_end(rt, flusher, threads, word, ended))
+    let threads = start_all(scope, rt, alloc, plan, params, posts, seats, stop_flag, threads);
+    Ok(serve_to_end(rt, flusher, threads, stop_flag, ended))
 }
 
 /// Nothing is started: closes the queues and sets the stop flag.
-fn call_off<R: Wait>(rt: &R, line_end: LineEnd, word: &OnceLock<bool>) {
+fn call_off<R: Wait>(rt: &R, line_end: LineEnd, stop_flag: &OnceLock<bool>) {
     let _closed = line_end.close(rt);
-    let _said = tell_workers(rt, word, true);
+    let _said = tell_workers(rt, stop_flag, true);
 }
 
 /// Starts a thread for each worker for which there is one, and puts them into an empty list with room for them.
@@ -202,16 +202,16 @@ fn start_all<
     params: Params,
     posts: Vec<Post<L, T, W>>,
     seats: Vec<Seat>,
-    word: &'a OnceLock<bool>,
+    stop_flag: &'a OnceLock<bool>,
     empty: Vec<Thread<'a, L, T, W>>,
 ) -> Vec<Thread<'a, L, T, W>>
     requires seats { length seats.items ≡ length posts.items }
     requires empty { (empty.items ≡ []) × (vec_capacity empty ≡ length posts.items) }
-    ensures { AllZip (IsFor plan.now params word.now.id) (zip posts.items seats.items) result.items }
+    ensures { AllZip (IsFor plan.now params stop_flag.now.id) (zip posts.items seats.items) result.items }
 {
     let mut threads = empty;
     for (seat, post) in seats.into_iter().zip(posts) {
-        let thread = start(scope, rt, alloc, plan, params, post, seat, word);
+        let thread = start(scope, rt, alloc, plan, params, post, seat, stop_flag);
         threads.push_reserved(thread);
     }
     threads
@@ -230,12 +230,12 @@ fn serve_to_end<
     rt: &R,
     flusher: Flusher<D>,
     threads: Vec<Thread<'a, L, T, W>>,
-    word: &'a OnceLock<bool>,
+    stop_flag: &'a OnceLock<bool>,
     empty: Vec<Option<Ended<L, T, W>>>,
 ) -> Relayed<D, L, T, W>
     requires empty { (empty.items ≡ []) × (length threads.items ≤ vec_capacity empty) }
-    requires word { AllByRecursion
-        (λ thread. IfSome thread (λ t. t.promise.word.value.id ≡ word.now.id)) threads.items }
+    requires stop_flag { AllByRecursion
+        (λ thread. IfSome thread (λ t. t.promise.stop_flag.value.id ≡ stop_flag.now.id)) threads.items }
     requires seats { AreSeatsOf flusher.line.of (names_of flusher.line.lines) threads.items }
     ensures broken { result.finished.broken ≡ result.finished.journal.broken }
     ensures served { IsServed D.state flusher result.finished.last.value }
@@ -250,11 +250,11 @@ fn serve_to_end<
 {
     let mut flusher = flusher;
     forget_missing(&mut flusher, &threads);
-    let (mut finished, said) = serve_and_tell(rt, flusher, word, have_started(&threads));
+    let (mut finished, said) = serve_and_tell(rt, flusher, stop_flag, have_started(&threads));
     let ended = join_all(rt, threads, &said, &mut finished.lines, empty);
     Relayed {
         complete: have_run_out(&ended),
-        is_cut: *word.value(&said),
+        is_cut: *stop_flag.value(&said),
         finished,
         ended,
     }
@@ -265,22 +265,22 @@ fn serve_to_end<
 fn serve_and_tell<'a, R: Wait, D: Disk + Drop>(
     rt: &R,
     flusher: Flusher<D>,
-    word: &'a OnceLock<bool>,
+    stop_flag: &'a OnceLock<bool>,
     are_all: bool,
 ) -> (Finished<D>, OnceToken<'a, bool>)
     ensures broken { result.0.broken ≡ result.0.journal.broken }
     ensures journal { result.0.last.value.journal ≡ result.0.journal }
     ensures ends { IsServed D.state flusher result.0.last.value }
     ensures closed { IsLeftBy result.0.last.value.line result.0.lines }
-    ensures of { result.1.of ≡ word.now.id }
+    ensures of { result.1.of ≡ stop_flag.now.id }
     ensures said { result.1.value ≡ (result.0.broken || not are_all) }
 {
     if are_all {
         let finished = flusher.serve(rt);
-        let said = tell_workers(rt, word, finished.broken);
+        let said = tell_workers(rt, stop_flag, finished.broken);
         (finished, said)
     } else {
-        let said = tell_workers(rt, word, true);
+        let said = tell_workers(rt, stop_flag, true);
         (flusher.serve(rt), said)
     }
 }
@@ -316,7 +316,7 @@ struct Duty<L: Link + Drop, T: Turn + Drop, W: Waker + Drop> {
     params: Params,
     post: Snapshot<Post<L, T, W>>,
     seat: Snapshot<Seat>,
-    word: Snapshot<OnceLock<bool>>,
+    stop_flag: Snapshot<OnceLock<bool>>,
 }
 
 impl<'a, L: Link + Drop, T: Turn + Drop, W: Waker + Drop> Promise<Left<'a, L, T, W>>
@@ -327,7 +327,7 @@ impl<'a, L: Link + Drop, T: Turn + Drop, W: Waker + Drop> Promise<Left<'a, L, T,
 
     ghost kept_by = { λ duty left. HasEnded L.heard L.sent T.told T.endless W.woken duty.plan.value duty.params
         (duty.post.value, duty.seat.value)
-        left.post left.seat (is_some left.heard) × IsHeard duty.word.value.id left.heard };
+        left.post left.seat (is_some left.heard) × IsHeard duty.stop_flag.value.id left.heard };
 }
 
 /// The duty of a worker at a post and a seat.
@@ -336,20 +336,20 @@ fn duty_of<L: Link + Drop, T: Turn + Drop, W: Waker + Drop>(
     params: Params,
     post: &Post<L, T, W>,
     seat: &Seat,
-    word: &OnceLock<bool>,
+    stop_flag: &OnceLock<bool>,
 ) -> Duty<L, T, W>
     ensures plan { result.plan.value ≡ plan.now }
     ensures params { result.params ≡ params }
     ensures post { result.post.value ≡ post.now }
     ensures seat { result.seat.value ≡ seat.now }
-    ensures word { result.word.value ≡ word.now }
+    ensures stop_flag { result.stop_flag.value ≡ stop_flag.now }
 {
     Duty {
         plan: Snapshot::of(plan),
         params,
         post: Snapshot::of(post),
         seat: Snapshot::of(seat),
-        word: Snapshot::of(word),
+        stop_flag: Snapshot::of(stop_flag),
     }
 }
 
@@ -383,13 +383,13 @@ fn start<
     params: Params,
     post: Post<L, T, W>,
     seat: Seat,
-    word: &'a OnceLock<bool>,
+    stop_flag: &'a OnceLock<bool>,
 ) -> Thread<'a, L, T, W>
-    ensures { IsFor plan.now params word.now.id (post, seat) result }
+    ensures { IsFor plan.now params stop_flag.now.id (post, seat) result }
 {
     let started = scope.spawn_with(
-        duty_of(plan, params, &post, &seat, word),
-        move || work(rt, alloc, plan, params, post, seat, word),
+        duty_of(plan, params, &post, &seat, stop_flag),
+        move || work(rt, alloc, plan, params, post, seat, stop_flag),
     );
     match started {
         Ok(thread) => Some(thread),
@@ -408,8 +408,8 @@ fn join_all<'a, R: Threads + Wait, L: Link + Drop, T: Turn + Drop, W: Waker + Dr
 ) -> Vec<Option<Ended<L, T, W>>>
     requires empty { empty.items ≡ [] }
     requires room { length threads.items ≤ vec_capacity empty }
-    requires word { AllByRecursion
-        (λ thread. IfSome thread (λ t. t.promise.word.value.id ≡ said.now.of)) threads.items }
+    requires stop_flag { AllByRecursion
+        (λ thread. IfSome thread (λ t. t.promise.stop_flag.value.id ≡ said.now.of)) threads.items }
     requires seats { AreSeatsOf lines.old.of (names_of lines.old.lines) threads.items }
     ensures same { lines.new ≡ lines.old }
     ensures joined { AllZip
@@ -430,7 +430,7 @@ fn join<'a, R: Threads + Wait, L: Link + Drop, T: Turn + Drop, W: Waker + Drop>(
     said: &OnceToken<'a, bool>,
     lines: &mut ClosedEnd,
 ) -> Option<Ended<L, T, W>>
-    requires word { IfSome thread (λ t. t.promise.word.value.id ≡ said.now.of) }
+    requires stop_flag { IfSome thread (λ t. t.promise.stop_flag.value.id ≡ said.now.of) }
     requires seat { IfSome thread (λ t. IsSeatOf lines.old.of (names_of lines.old.lines) t.promise.seat.value) }
     ensures same { lines.new ≡ lines.old }
     ensures joined { GivesBack
@@ -478,13 +478,13 @@ fn work<'a, R: Wait, L: Link + Drop, T: Turn + Drop, W: Waker + Drop>(
     params: Params,
     post: Post<L, T, W>,
     seat: Seat,
-    word: &'a OnceLock<bool>,
+    stop_flag: &'a OnceLock<bool>,
 ) -> Left<'a, L, T, W>
     ensures ended { HasEnded L.heard L.sent T.told T.endless W.woken plan.now params (post, seat)
         result.post result.seat (is_some result.heard) }
-    ensures heard { IsHeard word.now.id result.heard }
+    ensures heard { IsHeard stop_flag.now.id result.heard }
 {
-    work_as::<Brand, R, L, T, W>(rt, alloc, plan, params, post, seat, word)
+    work_as::<Brand, R, L, T, W>(rt, alloc, plan, params, post, seat, stop_flag)
 }
 
 fn work_as<'a, O: TurnOwner, R: Wait, L: Link + Drop, T: Turn + Drop, W: Waker + Drop>(
@@ -494,15 +494,15 @@ fn work_as<'a, O: TurnOwner, R: Wait, L: Link + Drop, T: Turn + Drop, W: Waker +
     params: Params,
     post: Post<L, T, W>,
     seat: Seat,
-    word: &'a OnceLock<bool>,
+    stop_flag: &'a OnceLock<bool>,
 ) -> Left<'a, L, T, W>
     requires first { T.told post.turn ≡ O.first }
     requires endless { T.endless post.turn ≡ O.endless }
     requires seat { O.seat ≡ Some seat }
-    requires lock { word.now.id ≡ O.lock }
+    requires lock { stop_flag.now.id ≡ O.lock }
     ensures ended { HasEnded L.heard L.sent T.told T.endless W.woken plan.now params (post, seat)
         result.post result.seat (is_some result.heard) }
-    ensures heard { IsHeard word.now.id result.heard }
+    ensures heard { IsHeard stop_flag.now.id result.heard }
 {
     let Post {
         worker,
@@ -513,7 +513,7 @@ fn work_as<'a, O: TurnOwner, R: Wait, L: Link + Drop, T: Turn + Drop, W: Waker +
     let mut ends = Ends {
         link,
         desk: SeatDesk::<O>::new(seat),
-        turn: CutTurn::<'_, T, O>::new(turn, word),
+        turn: CutTurn::<'_, T, O>::new(turn, stop_flag),
         waker,
     };
     match worker {

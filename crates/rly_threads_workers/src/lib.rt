@@ -1,10 +1,10 @@
 //! The workers of a relay: a receiver for each upstream neighbour, and a sender with congestion
 //! control for each next hop (`specs/SenderState.antt`). In each turn a worker receives up to 64
-//! packets, submits the calls of its `rly_hop` core together, and sends the resulting messages; a
-//! receiver wakes the sender of a hop that has a new datagram. For any `Link`, `Desk`, `Turn` and
-//! `Waker`, the recorded effects of `receiver_run` and `sender_run` are those of
-//! `specs/ReceiverTurns.antt` and `specs/SenderTurns.antt`. Callers: `rly_threads`,
-//! `rly_daemon_reporter`.
+//! packets, passes them to its `rly_hop` state machine, submits the journal calls that this requests
+//! as one batch through its `Desk` (the journal's client), and sends the resulting messages; a
+//! receiver wakes the sender of a hop that has a new datagram. The contracts of `receiver_run` and
+//! `sender_run` fix each receive, call, packet and wake-up: `specs/ReceiverTurns.antt`,
+//! `specs/SenderTurns.antt`. Callers: `rly_threads`, `rly_daemon_reporter`.
 #![tactic(auto)]
 
 mod desk;

@@ -143,7 +143,7 @@ fn note_release(pace: &mut CongestionControl, named: Option<OutAction<&[u8]>>, a
     ensures { pace.new ≡ control_on_release pace.old (option_map out_action_bytes named.entry) at }
 {
     if let Some(OutAction::Release(number)) = named {
-        pace.covered(number, at);
+        pace.on_covered(number, at);
     }
 }
 
@@ -163,7 +163,7 @@ fn note_named(pace: &mut CongestionControl, named: Option<OutAction<&[u8]>>, at:
     ensures { pace.new ≡ control_on_named pace.old (option_map out_action_bytes named.entry) at }
 {
     if let Some(OutAction::Send(Message::Data { number, .. })) = named {
-        pace.sent(number, at);
+        pace.on_sent(number, at);
     }
 }
 

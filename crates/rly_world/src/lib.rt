@@ -2,11 +2,13 @@
 //! any moment, and two relays over a lossy link.
 //!
 //! `law_relay`: a crash leaves a prefix of the accepted commands that holds all answered ones
-//! (`specs/RelayWorld.antt`). `law_two`: the downstream relay took a prefix of the upstream one's
-//! picks, and no more is released than was taken (`specs/PairWorld.antt`). `law_keyed`: the same
-//! for links with keys, over packets from anyone (`specs/KeyedWorld.antt`). `rly_world_relay` and
-//! `rly_world_pair` run real journals whose steps are these events; the functions here have empty
-//! bodies.
+//! (`specs/RelayWorld.antt`). `law_two`: the datagrams that the downstream relay stored are a prefix
+//! of those that the upstream relay picked for it, and the upstream relay released at most as many
+//! (`specs/PairWorld.antt`). `law_keyed`: the same for links with keys, whatever packets come in, if
+//! each packet with a valid tag was made by one of the two (`specs/KeyedWorld.antt`).
+//!
+//! No crate calls these functions: their contracts are the theorems. `rly_world_relay` and
+//! `rly_world_pair` run real journals whose steps are these events.
 #![tactic(auto)]
 
 mod keyed_law;

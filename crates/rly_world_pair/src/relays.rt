@@ -321,7 +321,8 @@ fn hear(receiver: &mut Receiving, message: &Message<Payload>) -> Option<(u64, u6
     ensures state { receiver.new ≡ (receiving_step receiver.old (InEvent.Heard message.now)).0 }
     ensures named { MatchOption result ((receiving_step receiver.old (InEvent.Heard message.now)).1 ≡ None)
         (λ named. (payload : List ℕ)
-        × ((receiving_step receiver.old (InEvent.Heard message.now)).1 ≡ Some (InAction.Take named.0 named.1 payload))) }
+        × ((receiving_step receiver.old (InEvent.Heard message.now)).1
+        ≡ Some (InAction.Take named.0 named.1 payload))) }
 {
     match receiver.step(InEvent::Heard(borrowed_message(message))) {
         Some(InAction::Take { number, limit, .. }) => Some((number, limit)),

@@ -53,7 +53,8 @@ impl Model for Relay {
 
     ghost Value = { RelayState };
 
-    ghost view = { λ r. record { seats = views_of r.seats.items; line = r.line.items; kept = r.kept; spool = r.spool } };
+    ghost view = { λ r.
+        record { seats = views_of r.seats.items; line = r.line.items; kept = r.kept; spool = r.spool } };
 }
 
 impl Relay {
@@ -98,7 +99,7 @@ impl Relay {
     }
 
     /// Returns the replies that a seat has received since the relay was opened; none if the seat doesn't exist.
-    pub fn known(&self, seat: SeatId) -> &[Answer]
+    pub fn replies_of(&self, seat: SeatId) -> &[Answer]
         ensures { result.now ≡ (slice_index_or self.now.seats seat.0 new_seat).known }
     {
         let index = usize::from(seat.0);

@@ -1,8 +1,8 @@
-//! Tests of disks and streams: disks in memory whose calls fail or that crash, groups appended to
-//! them and stopped at each call, and streams that fail.
+//! Tests of disks and streams in memory: disks whose calls fail, disks that lose power, groups that
+//! are appended and stopped at each call of the disk, and streams that fail.
 //!
-//! Expected values were worked out by hand. A failure means that a disk, a group or a stream
-//! breaks its model. Tests only; no crate calls it.
+//! Expected values were worked out by hand. A failure means that a disk, a group or a stream does
+//! something that its definition excludes. Tests only; no crate calls it.
 #![tactic(auto)]
 
 /// Like `assert!`, as one call: the prover then sees one branch where `assert!` has two. `assert!` is used if a later

@@ -100,7 +100,7 @@ fn long_take(hop: u16, start: u64) -> Command<Stored> {
 /// Each hop takes one more.
 fn take_all(rt: &impl Abort, alloc: Global, index: &mut Index) {
     for hop in 1..=64u16 {
-        let take = long_take(hop, index.used().saturating_add(23));
+        let take = long_take(hop, index.used_until().saturating_add(23));
         let reply = step(rt, alloc, index, 1_223, take).expect(rt, "memory");
         expect!(rt; matches!(&reply, Reply::Taken(id) if *id == COMMANDS + u64::from(hop)));
     }

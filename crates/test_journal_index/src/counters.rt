@@ -112,7 +112,7 @@ fn is_brought(index: &Index, next: u64, command: &Command<Stored>) -> bool
     ensures { IsTrue result → IsBrought index.now.geometry index.now.segment index.now.used next command.now }
 {
     index.law_index();
-    let used = index.used();
+    let used = index.used_until();
     if next < used || segment_end(&index.geometry(), index.segment()) < next {
         return false;
     }
@@ -130,7 +130,7 @@ pub(crate) fn step(
     bytes: u64,
     command: Command<Stored>,
 ) -> Result<Reply, AllocError> {
-    let next = index.used().saturating_add(bytes);
+    let next = index.used_until().saturating_add(bytes);
     assert!(rt; is_brought(index, next, &command));
     let room = index.reserve_for(alloc, &command)?;
     Ok(index.apply(command, room, next))
@@ -238,7 +238,7 @@ fn is_expired(reply: &Reply, late: &[u64]) -> bool {
 /// Returns true iff the segments have these live bytes, the current one is used up to this offset, and the next opening
 /// makes this choice.
 fn stands_at(index: &Index, left: [u64; 4], current: (u64, u64), next: Choice) -> bool {
-    live(index) == left && (index.segment(), index.used()) == current && index.choose() == next
+    live(index) == left && (index.segment(), index.used_until()) == current && index.choose() == next
 }
 
 /// Returns true iff three datagrams wait, and the one at this position has this device address.
@@ -318,7 +318,7 @@ fn expect_row(rt: &impl Abort, alloc: Global, index: &mut Index, row: &Row) {
     let reply = step(rt, alloc, index, *bytes, command_of(act)).expect(rt, "memory");
     expect!(*rt; is_told(&reply, told));
     expect!(*rt; live(index) == *left);
-    expect!(*rt; index.used() == *used);
+    expect!(*rt; index.used_until() == *used);
 }
 
 /// Makes the steps of these rows, and compares each result. Returns the choice of the next opening.

@@ -23,7 +23,7 @@ fn expect_steps(rt: &impl Abort, alloc: Global, index: &mut Index) {
     let refused = was_refused(alloc);
     expect!(*rt; refused || taken && picked);
     let taken = u64::from(taken);
-    expect!(*rt; index.used() == 281 + 100 * taken + 20 * u64::from(picked));
+    expect!(*rt; index.used_until() == 281 + 100 * taken + 20 * u64::from(picked));
     if !picked {
         expect!(*rt; live(index) == [begun[0].saturating_add(6 * taken), begun[1], begun[2], begun[3]]);
     }

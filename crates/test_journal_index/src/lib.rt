@@ -1,7 +1,7 @@
 //! Tests of the index: its counters of live bytes and its device addresses, on a disk in memory.
 //!
 //! Expected values were worked out by hand. A failure means that a counter is wrong, so a segment
-//! in use could be opened. Tests only; no crate calls it.
+//! that still holds live datagrams could be overwritten. Tests only; no crate calls it.
 #![tactic(auto)]
 
 /// Like `assert!`, as one call: the prover then sees one branch where `assert!` has two. `assert!` is used if a later

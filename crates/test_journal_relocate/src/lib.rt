@@ -1,5 +1,6 @@
-//! Tests of spools whose payloads stay on the device: the collected copy, the Fetches of a round,
-//! and the group of a round.
+//! Tests of spools whose payloads stay on the device: the copy that `rly_journal_relocate` collects
+//! for a new head, the payloads that `rly_journal_fetch` reads, and the payload addresses in a
+//! commit group of `rly_journal`.
 //!
 //! Expected values were worked out by hand; disks are in memory. A failure means that a payload
 //! gets a wrong device address, wrong bytes or a wrong reply. Tests only; no crate calls it.

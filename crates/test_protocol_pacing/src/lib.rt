@@ -1,5 +1,6 @@
-//! Tests of congestion control: rows computed by hand from RFC 6298, RFC 5681 and RFC 6928
-//! (docs/PROTOCOL.md, "The pace of a hop"), and a sending worker over a link in memory.
+//! Tests of `rly_hop_pacing` and of a sender over a link in memory: timers, windows and rates that
+//! were computed by hand from RFC 6298, RFC 5681 and RFC 6928 (docs/PROTOCOL.md, "The pace of a
+//! hop"). A failure means that a hop is overrun, or waits too long. Tests only; no crate calls it.
 #![tactic(auto)]
 
 /// Like `assert!`, as one call: the prover then sees one path instead of two. A number after the condition names a

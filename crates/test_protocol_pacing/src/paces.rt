@@ -16,10 +16,10 @@ fn opened<R: Abort>(rt: &R) -> CongestionControl {
 #[test]
 fn first_round_trip(rt: HostRuntime) {
     let mut pace = opened(&rt);
-    pace.sent(1, 0);
+    pace.on_sent(1, 0);
     expect!(rt; !pace.timeout(999_999), 10);
-    pace.covered(1, 600_000);
-    pace.sent(2, 600_000);
+    pace.on_covered(1, 600_000);
+    pace.on_sent(2, 600_000);
     expect!(rt; !pace.timeout(2_399_999), 11);
     expect!(rt; pace.timeout(2_400_000), 12);
 }
@@ -28,11 +28,11 @@ fn first_round_trip(rt: HostRuntime) {
 #[test]
 fn second_round_trip(rt: HostRuntime) {
     let mut pace = opened(&rt);
-    pace.sent(1, 0);
-    pace.covered(1, 600_000);
-    pace.sent(2, 1_000_000);
-    pace.covered(2, 1_600_000);
-    pace.sent(3, 2_000_000);
+    pace.on_sent(1, 0);
+    pace.on_covered(1, 600_000);
+    pace.on_sent(2, 1_000_000);
+    pace.on_covered(2, 1_600_000);
+    pace.on_sent(3, 2_000_000);
     expect!(rt; !pace.timeout(3_499_999), 20);
     expect!(rt; pace.timeout(3_500_000), 21);
 }
@@ -41,16 +41,16 @@ fn second_round_trip(rt: HostRuntime) {
 #[test]
 fn doubling(rt: HostRuntime) {
     let mut pace = opened(&rt);
-    pace.sent(1, 0);
+    pace.on_sent(1, 0);
     expect!(rt; pace.timeout(1_000_000), 30);
-    pace.sent(1, 1_000_000);
+    pace.on_sent(1, 1_000_000);
     expect!(rt; !pace.timeout(2_999_999), 31);
     expect!(rt; pace.timeout(3_000_000), 32);
-    pace.sent(1, 3_000_000);
+    pace.on_sent(1, 3_000_000);
     expect!(rt; pace.timeout(7_000_000), 33);
-    pace.sent(1, 7_000_000);
-    pace.covered(1, 7_100_000);
-    pace.sent(2, 8_000_000);
+    pace.on_sent(1, 7_000_000);
+    pace.on_covered(1, 7_100_000);
+    pace.on_sent(2, 8_000_000);
     expect!(rt; !pace.timeout(15_999_999), 34);
     expect!(rt; pace.timeout(16_000_000), 35);
 }
@@ -59,14 +59,14 @@ fn doubling(rt: HostRuntime) {
 #[test]
 fn contacts(rt: HostRuntime) {
     let mut pace = opened(&rt);
-    pace.sent(1, 0);
+    pace.on_sent(1, 0);
     expect!(rt; pace.timeout(1_000_000), 40);
-    pace.sent(1, 1_000_000);
+    pace.on_sent(1, 1_000_000);
     expect!(rt; !pace.contact(false), 41);
     expect!(rt; !pace.timeout(90_000_000), 42);
     expect!(rt; pace.room() == 0, 43);
     expect!(rt; pace.contact(true), 44);
-    pace.sent(1, 90_000_000);
+    pace.on_sent(1, 90_000_000);
     expect!(rt; !pace.timeout(90_999_999), 45);
     expect!(rt; pace.timeout(91_000_000), 46);
 }
@@ -75,7 +75,7 @@ fn contacts(rt: HostRuntime) {
 fn fill(pace: &mut CongestionControl, from: u64, at: u64) -> u64 {
     let next = from.saturating_add(pace.room());
     for number in from..next {
-        pace.sent(number, at);
+        pace.on_sent(number, at);
     }
     next
 }
@@ -86,10 +86,10 @@ fn windows(rt: HostRuntime) {
     let mut pace = opened(&rt);
     expect!(rt; fill(&mut pace, 1, 0) == 11, 50);
     expect!(rt; pace.room() == 0, 55);
-    pace.covered(5, 600_000);
+    pace.on_covered(5, 600_000);
     expect!(rt; fill(&mut pace, 11, 600_000) == 21, 51);
     expect!(rt; pace.timeout(2_400_000), 52);
     expect!(rt; fill(&mut pace, 6, 2_400_000) == 7, 53);
-    pace.covered(8, 3_000_000);
+    pace.on_covered(8, 3_000_000);
     expect!(rt; fill(&mut pace, 9, 3_000_000) == 10, 54);
 }

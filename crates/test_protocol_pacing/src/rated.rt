@@ -88,7 +88,7 @@ const RATED: [(u64, u64, usize); 10] = [
 
 /// Checks the number of calls and of sent packets, and that the rest waits.
 fn expect_paced<R: Abort>(rt: &R, ends: &MemEnds, calls: u64, sent: usize) {
-    expect!(*rt; (ends.desk.calls(), ends.link.delivered().len()) == (calls, sent));
+    expect!(*rt; (ends.desk.calls(), ends.link.deliveries().len()) == (calls, sent));
     let flight = calls.saturating_sub(1).saturating_sub(sent as u64);
     expect_counts(rt, &ends.desk, (8u64.saturating_sub(flight), flight, 0));
 }
@@ -108,7 +108,7 @@ fn a_rate_is_kept(rt: HostRuntime) {
 
 /// The number of packets that the hop without a rate sends in this many turns.
 fn sent_without_a_rate<R: Abort + Wait>(rt: &R, alloc: Global, turns: u64) -> usize {
-    send(rt, alloc, HopId(2), turns).link.delivered().len()
+    send(rt, alloc, HopId(2), turns).link.deliveries().len()
 }
 
 /// The hop without a rate sends all eight by turn 9: 1, 2, 4 and 1.

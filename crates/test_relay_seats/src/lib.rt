@@ -1,7 +1,7 @@
-//! Tests of the submission queue and of the committer: callers in threads of their own run to
-//! their end, each at a seat, and their answers are compared with hand-written rows
-//! (docs/DEFINITIONS.md, docs/PROTOCOL.md). That threads run and messages arrive is in no
-//! contract.
+//! Tests of the submission queue and of the committer: callers in threads of their own, each with a
+//! seat, put their calls and compare the answers with rows that were written by hand
+//! (docs/DEFINITIONS.md, docs/PROTOCOL.md). No contract says that a thread runs or that a message
+//! arrives; these tests fail if one doesn't.
 #![tactic(auto)]
 
 /// Like `assert!`, as one call: the prover then sees one path instead of two.

@@ -147,7 +147,7 @@ fn is_kept(told: Told) -> bool {
 /// The answer to that receiver. It sends custody iff the datagram is stored.
 fn receive<R: Abort + Wait, K: Desk + Drop>(rt: &R, alloc: Global, desk: K) -> Told {
     let (link, heard) = hear(rt, alloc, desk);
-    let delivered = link.delivered();
+    let delivered = link.deliveries();
     expect!(*rt; delivered.len() == usize::from(is_kept(heard.last)));
     expect!(*rt; delivered.iter().all(|packet| packet.as_slice() == CUSTODY));
     heard.first

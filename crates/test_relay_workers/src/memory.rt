@@ -32,7 +32,7 @@ fn expect_carried<R: Abort>(rt: &R, link: &mut MemLink, packet: &[u8], last: &[u
 
 /// Checks that a link stores all that it sent.
 fn expect_kept<R: Abort>(rt: &R, alloc: Global, link: &MemLink, packets: &[Packets<'_>]) {
-    let delivered = link.delivered();
+    let delivered = link.deliveries();
     expect!(*rt; delivered.len() == MANY + 1 && are_sent(rt, alloc, delivered, packets));
 }
 

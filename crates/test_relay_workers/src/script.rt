@@ -165,7 +165,7 @@ fn left<R: Abort + Wait>(
 fn done(ends: &MemEnds) -> Done {
     [
         ends.desk.desk.calls(),
-        ends.link.delivered().len() as u64,
+        ends.link.deliveries().len() as u64,
         ends.link.waits(),
         ends.link.calls(),
     ]
@@ -224,7 +224,7 @@ fn expect_found<R: Abort>(rt: &R, alloc: Global, ends: &MemEnds, script: &Script
     let (turns, wanted, counts) = *row;
     let found = done(ends);
     let failures = u64::from(1 <= script.fails_at && script.fails_at <= found[3]);
-    let sent = are_sent(rt, alloc, ends.link.delivered(), script.sent);
+    let sent = are_sent(rt, alloc, ends.link.deliveries(), script.sent);
     expect_row(rt, are(found, wanted), "done", script, turns);
     expect_row(
         rt,

@@ -3,3 +3,4 @@
 mod counts;
 mod reporter_runs;
 mod reporters;
+mod schedule;

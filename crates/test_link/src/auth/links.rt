@@ -60,8 +60,8 @@ fn what_has_no_right_tag_is_nothing_and_counted(rt: HostRuntime) {
 
 /// One packet was sent over the link below: the custody with its tag.
 fn expect_one_sealed<R: Abort>(rt: &R, below: &MemLink) {
-    expect!(*rt; below.delivered().len() == 1);
-    for packet in below.delivered() {
+    expect!(*rt; below.deliveries().len() == 1);
+    for packet in below.deliveries() {
         expect!(*rt; packet.as_slice() == with_tag(&TAG).as_slice());
     }
 }
@@ -83,7 +83,7 @@ fn expect_too_long<R: Abort>(rt: &R, link: &mut Sealed<MemLink>) {
 fn a_packet_that_is_too_long_is_not_sent(rt: HostRuntime) {
     let mut link = sealed_over(&rt, rt.alloc(), LINE, &[]);
     expect_too_long(&rt, &mut link);
-    expect!(rt; link.into_link().delivered().len() == 1);
+    expect!(rt; link.into_link().deliveries().len() == 1);
 }
 
 /// The longest sealed packet that a worker's buffer holds is received whole, with or without a wait.

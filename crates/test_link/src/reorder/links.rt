@@ -117,7 +117,7 @@ fn run<R: Abort>(rt: &R, link: &mut ReorderedLink<MemLink>, acts: &[Act<'_>]) {
 
 /// Checks the number of packets sent over the link below, and the last one.
 fn expect_last<R: Abort>(rt: &R, below: &MemLink, count: usize, packet: &[u8]) {
-    let delivered = below.delivered();
+    let delivered = below.deliveries();
     expect!(*rt; delivered.len() == count);
     expect!(*rt; matches!(delivered.last(), Some(last) if last.as_slice() == packet));
 }

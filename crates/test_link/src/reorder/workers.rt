@@ -64,7 +64,7 @@ fn ends_of<R: Abort>(rt: &R, alloc: Global, turns: &[&[u8]]) -> MemEnds {
 
 /// Exactly these custodies were sent.
 fn has_sent<R: Abort>(rt: &R, ends: &MemEnds, lasts: &[u8]) {
-    let sent = ends.link.link().delivered();
+    let sent = ends.link.link().deliveries();
     crate::expect::expect(rt, sent.len() == lasts.len(), "as many as these");
     for (packet, last) in sent.iter().zip(lasts) {
         crate::expect::expect_row(

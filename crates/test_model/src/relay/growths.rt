@@ -104,7 +104,7 @@ fn are_starved<R: Abort>(rt: &R, alloc: Global, relay: &mut Relay) -> bool {
 /// Makes the steps, and compares the replies and the state after them.
 fn expect_steps_of<R: Abort>(rt: &R, alloc: Global, relay: &mut Relay) {
     let starved = are_starved(rt, alloc, relay);
-    let told = told_in(rt, alloc, relay.known(SEAT), 0);
+    let told = told_in(rt, alloc, relay.replies_of(SEAT), 0);
     let (taken, unsure) = expect_told(rt, &told, starved);
     let stands = taken_of(rt, alloc, relay);
     expect!(rt;

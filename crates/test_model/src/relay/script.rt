@@ -197,11 +197,11 @@ pub(crate) fn told_of<R: Abort>(
     relay: &mut Relay,
     rows: &[Row],
 ) -> Vec<Told> {
-    let before = relay.known(SEAT).len();
+    let before = relay.replies_of(SEAT).len();
     step(rt, relay, Step::Put(SEAT, asks_of(rt, alloc, rows)));
     step(rt, relay, Step::Round(64));
     step(rt, relay, Step::Hear(SEAT));
-    told_in(rt, alloc, relay.known(SEAT), before)
+    told_in(rt, alloc, relay.replies_of(SEAT), before)
 }
 
 /// Returns true iff each has this reply.

@@ -159,7 +159,7 @@ fn work<R: Abort + Wait>(rt: &R, alloc: Global, worker: Worker, ends: &mut MemEn
 /// Returns the numbers of the messages that went out. Each of them is one of the run's.
 fn numbers_in<R: Abort>(rt: &R, alloc: Global, link: &MemLink, run: &Run) -> Vec<u8> {
     let mut numbers = Vec::new(alloc);
-    for sent in link.delivered() {
+    for sent in link.deliveries() {
         let number = sent.get(15).copied().expect(rt, "a number");
         let wanted = message(rt, alloc, run.sends, number);
         expect!(rt; number <= run.last && sent.as_slice() == wanted.as_slice());

@@ -71,7 +71,7 @@ fn expect_counted<R: Abort + Clock, C: Clock + Drop>(rt: &R, link: &mut CountedL
     use_link(rt, link);
     let heard = expect_counts(rt, link.counts());
     expect!(rt; before <= heard && heard <= micros(rt));
-    expect!(rt; link.link().delivered().len() == 2);
+    expect!(rt; link.link().deliveries().len() == 2);
 }
 
 /// Each packet that the link below returns counts, by either receive, and each that is sent, even one that fails. A

@@ -110,7 +110,7 @@ impl<'a> Turn for Counting<'a> {
 struct Once<'a, C: Clock + Drop> {
     clock: C,
     answered: &'a AtomicU64,
-    word: &'a OnceLock<bool>,
+    stop_flag: &'a OnceLock<bool>,
     wanted: u64,
     told: u64,
 }
@@ -125,7 +125,7 @@ impl<'a, C: Clock + Drop> ReportClock for Once<'a, C> {
             return None;
         }
         for _wait in 0..1_000 {
-            if self.answered.load(Ordering::SeqCst) >= self.wanted || self.word.get().is_some() {
+            if self.answered.load(Ordering::SeqCst) >= self.wanted || self.stop_flag.get().is_some() {
                 break;
             }
             thread::sleep(&self.clock, Duration::from_millis(10));
@@ -181,7 +181,7 @@ struct Ended {
 #[derive(Drop)]
 struct Left {
     ended: Ended,
-    word: Option<bool>,
+    stop_flag: Option<bool>,
     written: Vec<u8>,
 }
 
@@ -196,10 +196,10 @@ fn relay<'a, R: Abort + Threads + Wait + Clock + Sync + Copy + Send + Drop, D: D
     let plan = plan_of(rt, alloc, PLAN);
     let posts = posts(rt, alloc, pace.answered);
     assert!(rt; posts.len() == 2);
-    let word = pace.word;
+    let stop_flag = pace.stop_flag;
     let counters = Rising::new();
     let ran = run_reported(
-        rt, alloc, journal, &plan, posts, pace, counters, written, word,
+        rt, alloc, journal, &plan, posts, pace, counters, written, stop_flag,
     );
     let Ok(reported) = ran else {
         panic!(rt; "no relay");
@@ -221,20 +221,20 @@ fn run_over<R: Abort + Threads + Wait + Clock + Sync + Copy + Send + Drop, D: Di
     wanted: u64,
 ) -> Left {
     let answered = AtomicU64::new(0);
-    let word = OnceLock::new();
+    let stop_flag = OnceLock::new();
     let pace = Once {
         clock: *rt,
         answered: &answered,
-        word: &word,
+        stop_flag: &stop_flag,
         wanted,
         told: 0,
     };
     let mut written = Vec::new(alloc);
     let ended = relay(rt, alloc, journal, pace, &mut written);
-    let word = word.get().copied();
+    let stop_flag = stop_flag.get().copied();
     Left {
         ended,
-        word,
+        stop_flag,
         written,
     }
 }
@@ -243,7 +243,7 @@ fn run_over<R: Abort + Threads + Wait + Clock + Sync + Copy + Send + Drop, D: Di
 fn expect_reported<R: Abort>(rt: &R, left: &Left) {
     let ended = &left.ended;
     expect!(rt; ended.had_thread && ended.complete && !ended.broken);
-    expect!(rt; ended.end == ReporterEnd::NoneDue && left.word == Some(false));
+    expect!(rt; ended.end == ReporterEnd::NoneDue && left.stop_flag == Some(false));
     expect!(rt; left.written.as_slice() == TOLD.as_bytes());
 }
 
@@ -260,7 +260,7 @@ fn a_running_relay_reports(rt: HostRuntime) {
 fn expect_broken<R: Abort>(rt: &R, left: &Left) {
     let ended = &left.ended;
     expect!(rt; ended.broken && ended.is_cut);
-    expect!(rt; ended.end == ReporterEnd::Closed && left.word.is_some());
+    expect!(rt; ended.end == ReporterEnd::Closed && left.stop_flag.is_some());
     expect!(rt; left.written.is_empty());
 }
 

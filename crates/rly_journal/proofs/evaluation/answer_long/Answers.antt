@@ -26,7 +26,7 @@ returns-in-Ok c =
     let long = refused (goal.at.returns-in-Ok c).After-law_index in
     let s = c.args.index.now.spool.state in
     let placed = map_command Inline c.args.command in
-    let one : IsStepped c.args.index.now c.apply.new.self placed c.apply.result c.used-used.result =
+    let one : IsStepped c.args.index.now c.apply.new.self placed c.apply.result c.used_until-used.result =
     stepped c.in-Ok.ensures.state c.in-Ok.ensures.at c.inline_command-placed.ensures c.apply.ensures.state c.apply.ensures.reply c.apply.ensures.at in
     let told = λ (t : State (List ℕ)) (alike : IsAlike s t). one.reply ∙ same_reply s t placed c.args.command alike (inline_alike c.args.command) in
     search (arith, told, inl, long, one.state, one.reply, one.at, unaccepted stored_length s placed long)

@@ -12,7 +12,7 @@ loop-thread-init g c =
     let items = c.into_iter-thread-iterator.ensures.into_iter_gives.0 in (
       search rules,
       grind (arith, rules, c.requires.empty, c.requires.room, items),
-      subst (AllByRecursion _) (sym items) c.requires.word,
+      subst (AllByRecursion _) (sym items) c.requires.stop_flag,
       subst (AllByRecursion _) (sym items) c.requires.seats,
       search rules,
       each_first _ _ _ _ items c.requires.empty,
@@ -34,8 +34,8 @@ loop-thread-preserved g c =
       each_next _ _ _ _ _ _ _ _ kept.5 steps.0 joined c.push_reserved.ensures.items,
     )
 
-pub join-requires-clause-word : goal.join-requires-clause-word
-join-requires-clause-word g c = (subst (AllByRecursion _) c.in-Some.ensures.steps.0 c.loop-thread.invariant.2).0
+pub join-requires-clause-stop_flag : goal.join-requires-clause-stop_flag
+join-requires-clause-stop_flag g c = (subst (AllByRecursion _) c.in-Some.ensures.steps.0 c.loop-thread.invariant.2).0
 
 pub join-requires-clause-seat : goal.join-requires-clause-seat
 join-requires-clause-seat g c =

@@ -12,7 +12,7 @@ abbrev pub invariant-loop-thread : goal.invariant-loop-thread
 invariant-loop-thread g l =
     (into_iter_len l.thread-iterator ≡ length (into_iter_items l.thread-iterator))
     × (length l.ended.items + length (into_iter_items l.thread-iterator) ≤ vec_capacity l.ended)
-    × AllByRecursion (λ thread. IfSome thread (λ t. t.promise.word.value.id ≡ l.fn.said.of)) (into_iter_items l.thread-iterator)
+    × AllByRecursion (λ thread. IfSome thread (λ t. t.promise.stop_flag.value.id ≡ l.fn.said.of)) (into_iter_items l.thread-iterator)
     × AreSeatsOf l.fn.lines.of (names_of l.fn.lines.lines) (into_iter_items l.thread-iterator)
     × (l.lines ≡ l.fn.lines)
     × Each (GivesBack (IsJoined g.L.Link.heard g.L.Link.sent g.T.Turn.told g.T.Turn.endless g.W.Waker.woken l.fn.said.value l.fn.lines)) l.fn.threads.items (into_iter_items l.thread-iterator) l.ended.items

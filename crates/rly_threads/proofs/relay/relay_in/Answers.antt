@@ -25,8 +25,8 @@ serve_to_end-requires-clause-seats g c =
     subst (λ (f : FlusherState g.row.D.Denot). AreSeatsOf f.line.of (names_of f.line.lines) c.start_all-threads.result.items) (sym c.in-Ok-new.ensures.begins)
     (are_seats _ _ _ c.args.line_end.of names c.args.posts.items c.args.seats.items c.start_all-threads.result.items c.start_all-threads.ensures c.requires.seats)
 
-pub serve_to_end-requires-clause-word : goal.serve_to_end-requires-clause-word
-serve_to_end-requires-clause-word g c = all_told _ _ _ _ refl _ _ c.start_all-threads.ensures
+pub serve_to_end-requires-clause-stop_flag : goal.serve_to_end-requires-clause-stop_flag
+serve_to_end-requires-clause-stop_flag g c = all_told _ _ _ _ refl _ _ c.start_all-threads.ensures
 
 -- its flusher began with the journal, at the end of the line
 pub returns-clause-end : goal.returns-clause-end

@@ -10,10 +10,10 @@ use Rattle.rly_threads.specs.HelpersCut.{AreSeatsOf, GivesBack, IsJoined}
 use Rattle.rly_threads.proofs.Kept.{all_answered, all_there}
 use Rattle.rly_threads.proofs.relay.serve_to_end.Goals as goal
 
-pub join_all-ended-requires-clause-word : goal.join_all-ended-requires-clause-word
-join_all-ended-requires-clause-word g c =
-    subst (λ lock. AllByRecursion (λ thread. IfSome thread (λ t. t.promise.word.value.id ≡ lock)) c.args.threads.items)
-    (sym c.serve_and_tell-finished.ensures.of) c.requires.word
+pub join_all-ended-requires-clause-stop_flag : goal.join_all-ended-requires-clause-stop_flag
+join_all-ended-requires-clause-stop_flag g c =
+    subst (λ lock. AllByRecursion (λ thread. IfSome thread (λ t. t.promise.stop_flag.value.id ≡ lock)) c.args.threads.items)
+    (sym c.serve_and_tell-finished.ensures.of) c.requires.stop_flag
 
 -- the seats are of the queues that the flusher closed
 pub join_all-ended-requires-clause-seats : goal.join_all-ended-requires-clause-seats

@@ -48,5 +48,5 @@ returns g c =
       | inl first ↦ none_left _ (sym before.0 ∙ first.1.0)
       | inr second ↦ none_left _ (sym before.1 ∙ second.1.0)
     ]) in
-    subst (λ given. AllZip (IsFor c.args.plan.now c.args.params c.args.word.now.id) given c.loop-seat.threads.items) (λ i. zip (items i) (seats i))
+    subst (λ given. AllZip (IsFor c.args.plan.now c.args.params c.args.stop_flag.now.id) given c.loop-seat.threads.items) (λ i. zip (items i) (seats i))
     (each_all _ _ _ _ before.3 (ap (λ l. zip l (into_iter_items (zip_first c.loop-seat.seat-iterator))) none))

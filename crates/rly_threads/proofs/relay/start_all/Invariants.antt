@@ -13,6 +13,6 @@ invariant-loop-seat g l =
     (into_iter_len (zip_first l.seat-iterator) ≡ length (into_iter_items (zip_second l.seat-iterator)))
     × (into_iter_len (zip_second l.seat-iterator) ≡ length (into_iter_items (zip_second l.seat-iterator)))
     × (length l.threads.items + length (into_iter_items (zip_second l.seat-iterator)) ≤ vec_capacity l.threads)
-    × Each (IsFor l.fn.plan l.fn.params l.fn.word.id)
+    × Each (IsFor l.fn.plan l.fn.params l.fn.stop_flag.id)
     (zip (into_iter_items (zip_second l.initial.seat-iterator)) (into_iter_items (zip_first l.initial.seat-iterator)))
     (zip (into_iter_items (zip_second l.seat-iterator)) (into_iter_items (zip_first l.seat-iterator))) l.threads.items
