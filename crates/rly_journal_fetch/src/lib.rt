@@ -2,8 +2,7 @@
 //!
 //! `Outcome` is a call's reply, or the device address of the payload that it requests.
 //! `answer_all` makes the reads in order; a failed read or allocation refuses that call alone
-//! (`specs/FetchReads.antt`). `specs/Trials.antt` defines lists of calls that are tried in turn,
-//! with their laws in `src/trials.rt`. Caller: `rly_journal`.
+//! (`specs/FetchReads.antt`). It writes nothing. Caller: `rly_journal`.
 #![tactic(auto)]
 
 mod answers;

@@ -2,8 +2,8 @@
 //! group, which is 1 to 64 records (docs/FORMATS.md, "Bodies and records").
 //!
 //! Each command has one encoding (`specs/Spelling.antt`). Readers return the command that the
-//! bytes encode; only bytes that encode none are malformed. Callers: `rly_journal`,
-//! `rly_journal`, and `rly_segment_checkpoint`, which uses its field readers.
+//! bytes encode; only bytes that encode none are malformed. Callers: `rly_journal`, and
+//! `rly_segment_checkpoint`, which uses its field readers.
 #![tactic(auto)]
 
 mod decode_fault;
