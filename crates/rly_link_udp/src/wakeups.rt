@@ -75,7 +75,8 @@ impl Wakeups {
     /// A hop's link is about to wait. Returns whether it may: not if it was woken.
     pub(crate) fn begin_wait(&self, hop: HopId) -> bool {
         match self.at(hop) {
-            Some(wakeup) => wakeup.is_idle() || wakeup.state.swap(WAITING, Ordering::SeqCst) != WOKEN,
+            Some(wakeup) => wakeup.is_idle()
+                || wakeup.state.swap(WAITING, Ordering::SeqCst) != WOKEN,
             None => true,
         }
     }

@@ -156,5 +156,9 @@ fn heard_end<'a>(stop_flag: &'a OnceLock<bool>) -> Option<OnceToken<'a, bool>>
     ensures { IsHeard stop_flag.now.id result }
 {
     let said = stop_flag.witness()?;
-    if *stop_flag.value(&said) { Some(said) } else { None }
+    if *stop_flag.value(&said) {
+        Some(said)
+    } else {
+        None
+    }
 }

@@ -175,7 +175,9 @@ fn relay_in<
             return Err(journal);
         }
     };
-    let threads = start_all(scope, rt, alloc, plan, params, posts, seats, stop_flag, threads);
+    let threads = start_all(
+        scope, rt, alloc, plan, params, posts, seats, stop_flag, threads,
+    );
     Ok(serve_to_end(rt, flusher, threads, stop_flag, ended))
 }
 

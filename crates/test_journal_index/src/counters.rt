@@ -238,7 +238,9 @@ fn is_expired(reply: &Reply, late: &[u64]) -> bool {
 /// Returns true iff the segments have these live bytes, the current one is used up to this offset, and the next opening
 /// makes this choice.
 fn stands_at(index: &Index, left: [u64; 4], current: (u64, u64), next: Choice) -> bool {
-    live(index) == left && (index.segment(), index.used_until()) == current && index.choose() == next
+    live(index) == left
+        && (index.segment(), index.used_until()) == current
+        && index.choose() == next
 }
 
 /// Returns true iff three datagrams wait, and the one at this position has this device address.

@@ -68,7 +68,9 @@ fn left_in<D: Disk, T: Turn>(relayed: &Relayed<D, MemLink, T, MemWaker>) -> Left
         if let Some(worker) = ended {
             left.ran = left.ran.saturating_add(1);
             left.cut = left.cut.saturating_add(usize::from(worker.was_cut));
-            left.sent = left.sent.saturating_add(worker.post.link.deliveries().len());
+            left.sent = left
+                .sent
+                .saturating_add(worker.post.link.deliveries().len());
         }
     }
     left

@@ -125,7 +125,9 @@ impl<'a, C: Clock + Drop> ReportClock for Once<'a, C> {
             return None;
         }
         for _wait in 0..1_000 {
-            if self.answered.load(Ordering::SeqCst) >= self.wanted || self.stop_flag.get().is_some() {
+            if self.answered.load(Ordering::SeqCst) >= self.wanted
+                || self.stop_flag.get().is_some()
+            {
                 break;
             }
             thread::sleep(&self.clock, Duration::from_millis(10));
