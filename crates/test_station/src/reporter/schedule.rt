@@ -23,7 +23,7 @@ impl Clock for SleepClock {
     }
 
     fn sleep(&self, duration: Duration) {
-        let passed = duration.as_micros() as u64;
+        let passed = u64::try_from(duration.as_micros()).unwrap_or(0);
         let at = self.at.load(Ordering::SeqCst);
         self.at.store(at.saturating_add(passed), Ordering::SeqCst);
     }
