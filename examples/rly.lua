@@ -11,10 +11,18 @@ local rly = Proto("rly", "Hop protocol of rly")
 
 local MARK, VERSION = 0x524c, 1
 local HEAD, LONGEST_PAYLOAD = 8, 8192
-local DATA, CUSTODY, REFUSED, LIMITED = 1, 2, 3, 4
-local KINDS = { [DATA] = "Data", [CUSTODY] = "Custody", [REFUSED] = "Refused", [LIMITED] = "Data with a limit" }
+local DATA, CUSTODY, REFUSED, LIMITED, HEARD = 1, 2, 3, 4, 5
+local KINDS = {
+    [DATA] = "Data",
+    [CUSTODY] = "Custody",
+    [REFUSED] = "Refused",
+    [LIMITED] = "Data with a limit",
+    [HEARD] = "Heard",
+}
 -- The length of each kind's messages, without a payload.
-local LENGTHS = { [DATA] = 18, [CUSTODY] = 16, [REFUSED] = 17, [LIMITED] = 23 }
+local LENGTHS = { [DATA] = 18, [CUSTODY] = 16, [REFUSED] = 17, [LIMITED] = 23, [HEARD] = 24 }
+-- The numbers that a Heard has a bit for.
+local PLACES = 64
 
 -- What `rly` tells a peer station: in words, and as the text that follows the number in a line of `rly`.
 local REFUSALS = {
@@ -63,6 +71,8 @@ local fields = {
     destination = ProtoField.uint16("rly.destination", "Destination station, where relays forward it"),
     refusal = ProtoField.uint8("rly.refusal", "Refusal", base.DEC, REFUSALS),
     refusal_text = ProtoField.string("rly.refusal.text", "Text of the refusal"),
+    bits = ProtoField.uint64("rly.bits", "Bits of the 64 numbers after it", base.HEX),
+    heard = ProtoField.string("rly.heard", "Numbers whose bits are set"),
     rest = ProtoField.bytes("rly.rest", "Not read"),
     fault = ProtoField.uint8("rly.fault", "Fault", base.DEC, fault_texts),
     fault_number = ProtoField.uint8("rly.fault.number", "Number of the fault"),
@@ -115,6 +125,22 @@ local function show_payload(packet, tree, message, at)
     end
 end
 
+-- The numbers whose bits a Heard has set, as ranges. The first bit is that of the number after the last one that is kept.
+local function heard_numbers(packet)
+    local last, ranges, first = packet(8, 8):uint64(), {}, nil
+    for place = 0, PLACES do
+        local is_set = place < PLACES and packet(16, 8):bitfield(place, 1) == 1
+        if is_set and not first then
+            first = place
+        elseif first and not is_set then
+            local from, to = tostring(last + (first + 1)), tostring(last + place)
+            table.insert(ranges, from == to and from or from .. "-" .. to)
+            first = nil
+        end
+    end
+    return #ranges > 0 and table.concat(ranges, ", ") or "none"
+end
+
 -- Reads and shows what follows the head, as `read_head` does.
 local function read_body(packet, tree, message)
     local size, fixed = packet:reported_len(), LENGTHS[message.kind]
@@ -133,6 +159,10 @@ local function read_body(packet, tree, message)
         if TEXTS[message.refusal] then
             item:add(fields.refusal_text, packet(16, 1), TEXTS[message.refusal]):set_generated()
         end
+    elseif message.kind == HEARD then
+        message.heard = heard_numbers(packet)
+        tree:add(fields.bits, packet(16, 8))
+        tree:add(fields.heard, packet(16, 8), message.heard):set_generated()
     elseif message.kind == DATA or message.kind == LIMITED then
         if message.kind == LIMITED then
             message.limit = tostring(packet(16, 5):uint64())
@@ -168,6 +198,9 @@ local function line_of(message)
     end
     if message.kind == CUSTODY then
         return line
+    end
+    if message.kind == HEARD then
+        return line .. ", and after it " .. message.heard
     end
     if message.number == "0" then
         line = line .. ", which asks for the last number"

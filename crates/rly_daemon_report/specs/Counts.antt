@@ -5,7 +5,7 @@ use Rattle.std.specs.Result.{result_ok}
 use Rattle.rly_hop.specs.FixedBytes.{data_number}
 use Rattle.rly_hop.specs.MessageReads.{message_or_fault}
 use Rattle.rly_hop.specs.declared.message.Message.{Message}
-use Rattle.rly_hop.specs.declared.message.Message.TheVariants.{Data, Custody, Refused}
+use Rattle.rly_hop.specs.declared.message.Message.TheVariants.{Data, Custody, Refused, Heard}
 use Rattle.rly_hop.specs.declared.message.StationId.{StationId}
 use Rattle.rly_daemon_report.specs.declared.peer_counts.PeerCounts.{PeerCounts}
 
@@ -26,12 +26,14 @@ abbrev pub is_custody : Option (Message (List ℕ)) → Bool
 is_custody (Some (Data from to number limit payload)) = false
 is_custody (Some (Custody from to last)) = true
 is_custody (Some (Refused from to number refusal)) = false
+is_custody (Some (Heard from to last bits)) = false
 is_custody None = false
 
 abbrev pub is_refusal : Option (Message (List ℕ)) → Bool
 is_refusal (Some (Data from to number limit payload)) = false
 is_refusal (Some (Custody from to last)) = false
 is_refusal (Some (Refused from to number refusal)) = true
+is_refusal (Some (Heard from to last bits)) = false
 is_refusal None = false
 
 -- all counts zero

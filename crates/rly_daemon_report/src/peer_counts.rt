@@ -53,7 +53,7 @@ impl PeerCounts {
         match message_in(packet) {
             Some(Message::Custody { .. }) => self.custody = counted_if(true, self.custody),
             Some(Message::Refused { .. }) => self.refused = counted_if(true, self.refused),
-            Some(Message::Data { .. }) | None => {}
+            Some(Message::Data { .. }) | Some(Message::Heard { .. }) | None => {}
         }
     }
 }

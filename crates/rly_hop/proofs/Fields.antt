@@ -7,7 +7,7 @@ use Rattle.byteorder.specs.Endian.{big_bytes, big_number}
 use Rattle.byteorder.specs.Numbers.{big_from-cons}
 use Rattle.rly_core.specs.declared.refusal.Refusal.{Refusal}
 use Rattle.rly_hop.specs.Rows.{first_row}
-use Rattle.rly_hop.specs.MessageReads.{field_at, found_unless}
+use Rattle.rly_hop.specs.MessageReads.{field_at, found_unless, is_known_kind}
 
 -- each item is a byte
 abbrev pub IsBytes : List ℕ → Type 0
@@ -145,15 +145,18 @@ pub record IsHeader (bytes : List ℕ) : Type 0 where
   pub from : 1 ≤ field_at 2 4 bytes
   pub to : 1 ≤ field_at 2 6 bytes
 
--- the kind is one of the four
-pub known_kind : (kind : ℕ) → not ((kind == 1) || (kind == 2) || (kind == 3) || (kind == 4)) ≡ false → (kind ≡ 1) ⊎ ((kind ≡ 2) ⊎ ((kind ≡ 3) ⊎ (kind ≡ 4)))
+-- the kind is one of the five
+pub known_kind : (kind : ℕ) → not (is_known_kind kind) ≡ false → (kind ≡ 1) ⊎ ((kind ≡ 2) ⊎ ((kind ≡ 3) ⊎ ((kind ≡ 4) ⊎ (kind ≡ 5))))
 known_kind kind e =
     elim (or_cases _ _ (not-false _ e)) [
-      | inl below ↦ elim (or_cases _ _ below) [
-        | inl low ↦ elim (or_cases _ _ low) [ inl one ↦ inl (eqb-true _ _ one) | inr two ↦ inr (inl (eqb-true _ _ two)) ]
-        | inr three ↦ inr (inr (inl (eqb-true _ _ three)))
+      | inl first ↦ elim (or_cases _ _ first) [
+        | inl below ↦ elim (or_cases _ _ below) [
+          | inl low ↦ elim (or_cases _ _ low) [ inl one ↦ inl (eqb-true _ _ one) | inr two ↦ inr (inl (eqb-true _ _ two)) ]
+          | inr three ↦ inr (inr (inl (eqb-true _ _ three)))
+        ]
+        | inr four ↦ inr (inr (inr (inl (eqb-true _ _ four))))
       ]
-      | inr four ↦ inr (inr (inr (eqb-true _ _ four)))
+      | inr five ↦ inr (inr (inr (inr (eqb-true _ _ five))))
     ]
 
 -- a number that isn't 0

@@ -5,7 +5,7 @@ use Rattle.byteorder.specs.Endian.{big_number}
 use Rattle.rly_hop.specs.declared.kind.Kind.{Kind}
 use Rattle.rly_hop.specs.declared.kind.Kind.TheVariants as kinds
 use Rattle.rly_hop.specs.declared.message.Message.{Message}
-use Rattle.rly_hop.specs.declared.message.Message.TheVariants.{Data, Refused}
+use Rattle.rly_hop.specs.declared.message.Message.TheVariants.{Data, Refused, Heard}
 use Rattle.rly_hop.specs.declared.message.StationId.{StationId}
 use Rattle.rly_hop.specs.HelpersKinds.{message_kind_byte}
 use Rattle.rly_hop.specs.MessageReads.{field_at, fixed_length, message_at, station_at}
@@ -16,6 +16,7 @@ fixed-16 kinds.Data = omega arith
 fixed-16 kinds.Custody = omega arith
 fixed-16 kinds.Refused = omega arith
 fixed-16 kinds.LimitedData = omega arith
+fixed-16 kinds.Heard = omega arith
 
 -- all bytes from an offset on
 all-behind : (place : ℕ) (bytes : List ℕ) → take (length bytes - place) (drop place bytes) ≡ drop place bytes
@@ -59,3 +60,13 @@ refused-read bytes kind from to number is are =
     let fields : (let m : Message (List ℕ) = Refused from to number (get_or bytes 16 0) in m) ≡ message_at 3 bytes =
     λ i. Refused (are.from_is i) (are.to_is i) (n i) (get_or bytes 16 0) in
     fields ∙ of-kind bytes kind kinds.Refused is
+
+pub heard-read : (bytes : List ℕ) (kind : Kind) (from to : StationId) (number bits : ℕ) → kind ≡ kinds.Heard → AreRead bytes from to number
+    → bits ≡ big_number 8 (take (length bytes - 16) (drop 16 bytes))
+    → (let m : Message (List ℕ) = Heard from to number bits in m) ≡ message_at (message_kind_byte kind) bytes
+heard-read bytes kind from to number bits is are bits_is =
+    let n = number-at bytes from to number are in
+    let b : bits ≡ field_at 8 16 bytes = bits_is ∙ ap (λ (x : List ℕ). big_number 8 x) (all-behind 16 bytes) in
+    let fields : (let m : Message (List ℕ) = Heard from to number bits in m) ≡ message_at 5 bytes =
+    λ i. Heard (are.from_is i) (are.to_is i) (n i) (b i) in
+    fields ∙ of-kind bytes kind kinds.Heard is

@@ -2,6 +2,7 @@ pub mod Faults
 pub mod Fields
 pub mod KindFields
 pub mod FixedBytes
+pub mod HeardBits
 pub mod Messages
 pub mod Parts
 pub mod ReceivingLaws

@@ -4,18 +4,18 @@ use Rattle.std.specs.Prelude.{IfOk, IsOkAnd, MatchResult}
 use Rattle.std.specs.Result.{result_err}
 use Rattle.std.specs.Borrow.{Bor}
 use Rattle.std.proofs.lemmas.Bool.{le-ltb, ltb-false, ne_eqb, or_from}
-use Rattle.std.proofs.lemmas.List.{drop_all, get_or-drop, length-drop, take-append-drop}
+use Rattle.std.proofs.lemmas.List.{drop_all, get_or-drop, length-drop, take-append-drop, take_all}
 use Rattle.byteorder.specs.Endian.{big_bytes, big_number}
 use Rattle.byteorder.specs.Numbers.{big_from-lt, big_number-reads_back}
 use Rattle.rly_core.specs.declared.refusal.Refusal.{Refusal}
 use Rattle.rly_core.specs.declared.refusal.Refusal.TheVariants.{Short, Long, Magic, Version, Kind, Station}
 use Rattle.rly_hop.specs.declared.message.StationId.{StationId}
 use Rattle.rly_hop.specs.declared.message.Message.{Message}
-use Rattle.rly_hop.specs.declared.message.Message.TheVariants.{Data, Custody, Refused}
+use Rattle.rly_hop.specs.declared.message.Message.TheVariants.{Data, Custody, Refused, Heard}
 use Rattle.rly_hop.specs.Payloads.{message_bytes}
 use Rattle.rly_hop.specs.Spelling.{IsMessage, IsStation, header, spelling}
-use Rattle.rly_hop.specs.MessageReads.{first_fault, fixed_length, found_unless, kind_of, message_at, field_at, payload_length, message_or_fault, station_at, whole_length}
-use Rattle.rly_hop.proofs.Fields.{IsBytes, IsBytes-drop, IsHeader, IsHeader-from, NoFault, field-append, field_2, field_5, field_8, front, joined_3, known_kind, no_fault, ok-is, positive, quiet, unless-is, unless-ok}
+use Rattle.rly_hop.specs.MessageReads.{first_fault, fixed_length, found_unless, is_known_kind, kind_of, message_at, field_at, payload_length, message_or_fault, station_at, whole_length}
+use Rattle.rly_hop.proofs.Fields.{IsBytes, IsBytes-drop, IsHeader, IsHeader-from, NoFault, field, field-append, field_2, field_5, field_8, front, joined_3, known_kind, no_fault, ok-is, positive, quiet, unless-is, unless-ok}
 
 -- a station's number, if it isn't 0
 station-fits : (place : ℕ) (bytes : List ℕ) → IsBytes bytes → 1 ≤ field_at 2 place bytes → IsStation (station_at place bytes)
@@ -99,10 +99,19 @@ refused-spelled bytes fits head is long =
       header-spelled bytes (slice_index bytes 16 ∷ []) 3 fits head is (omega arith) last,
     )
 
+heard-spelled : (bytes : List ℕ) → IsBytes bytes → IsHeader bytes → kind_of bytes ≡ 5 → length bytes ≡ 24 → Spelled 5 bytes
+unfolding spelling
+heard-spelled bytes fits head is long =
+    let all : field 8 16 bytes ≡ drop 16 bytes = take_all 8 (drop 16 bytes) (omega (arith, length-drop 16 bytes)) in
+    let last : drop 16 bytes ≡ big_bytes 8 (field_at 8 16 bytes) = sym (field_8 16 bytes fits (omega arith) ∙ all) in (
+      (station-fits 4 bytes fits head.from, station-fits 6 bytes fits head.to, number-fits 8 bytes fits, number-fits 16 bytes fits),
+      header-spelled bytes (big_bytes 8 (field_at 8 16 bytes)) 5 fits head is (omega arith) last,
+    )
+
 -- none of the ten tests of a datagram is met
 abbrev IsQuiet : List ℕ → Type 0
 IsQuiet bytes = NoFault (nat_lt (length bytes) 8) (not (field_at 2 0 bytes == 0x524c)) (not (slice_index bytes 2 == 1))
-    (not ((kind_of bytes == 1) || (kind_of bytes == 2) || (kind_of bytes == 3) || (kind_of bytes == 4))) ((field_at 2 4 bytes == 0) || (field_at 2 6 bytes == 0))
+    (not (is_known_kind (kind_of bytes))) ((field_at 2 4 bytes == 0) || (field_at 2 6 bytes == 0))
     (nat_lt (length bytes) (fixed_length (kind_of bytes))) ((kind_of bytes == 4) && (field_at 5 16 bytes == 0)) (nat_lt 8192 (payload_length (kind_of bytes) bytes))
     (nat_lt (length bytes) (whole_length (kind_of bytes) bytes)) (nat_lt (whole_length (kind_of bytes) bytes) (length bytes))
 
@@ -110,7 +119,7 @@ quiet-from : (bytes : List ℕ) → first_fault bytes ≡ None → IsQuiet bytes
 unfolding first_fault
 quiet-from bytes none =
     no_fault (nat_lt (length bytes) 8) (not (field_at 2 0 bytes == 0x524c)) (not (slice_index bytes 2 == 1))
-    (not ((kind_of bytes == 1) || (kind_of bytes == 2) || (kind_of bytes == 3) || (kind_of bytes == 4))) ((field_at 2 4 bytes == 0) || (field_at 2 6 bytes == 0))
+    (not (is_known_kind (kind_of bytes))) ((field_at 2 4 bytes == 0) || (field_at 2 6 bytes == 0))
     (nat_lt (length bytes) (fixed_length (kind_of bytes))) ((kind_of bytes == 4) && (field_at 5 16 bytes == 0)) (nat_lt 8192 (payload_length (kind_of bytes) bytes))
     (nat_lt (length bytes) (whole_length (kind_of bytes) bytes)) (nat_lt (whole_length (kind_of bytes) bytes) (length bytes))
     Short Magic Version Kind Station Short Kind Long Short Long none
@@ -119,7 +128,7 @@ reading-is : (bytes : List ℕ) (m : Message (List ℕ)) → IsQuiet bytes → m
 unfolding message_or_fault first_fault
 reading-is bytes m none is =
     unless-is (first_fault bytes) (message_at (kind_of bytes) bytes) m (quiet (nat_lt (length bytes) 8) (not (field_at 2 0 bytes == 0x524c)) (not (slice_index bytes 2 == 1))
-    (not ((kind_of bytes == 1) || (kind_of bytes == 2) || (kind_of bytes == 3) || (kind_of bytes == 4))) ((field_at 2 4 bytes == 0) || (field_at 2 6 bytes == 0))
+    (not (is_known_kind (kind_of bytes))) ((field_at 2 4 bytes == 0) || (field_at 2 6 bytes == 0))
     (nat_lt (length bytes) (fixed_length (kind_of bytes))) ((kind_of bytes == 4) && (field_at 5 16 bytes == 0)) (nat_lt 8192 (payload_length (kind_of bytes) bytes))
     (nat_lt (length bytes) (whole_length (kind_of bytes) bytes)) (nat_lt (whole_length (kind_of bytes) bytes) (length bytes))
     Short Magic Version Kind Station Short Kind Long Short Long none) is
@@ -144,12 +153,16 @@ reading-spelled bytes m fits e =
         | inr others ↦ elim others [
           | inl refused ↦
               subst (λ (k : ℕ). Spelled k bytes) (sym refused) (refused-spelled bytes fits head refused (subst (λ (k : ℕ). length bytes ≡ whole_length k bytes) refused whole))
-          | inr limited ↦
-              let limit : (field_at 5 16 bytes == 0) ≡ false = subst (λ (k : ℕ). ((k == 4) && (field_at 5 16 bytes == 0)) ≡ false) limited none.limit in
-              let payload : nat_lt 8192 (field_at 2 21 bytes) ≡ false = subst (λ (k : ℕ). nat_lt 8192 (payload_length k bytes) ≡ false) limited none.payload in
-              let exact : length bytes ≡ whole_length 4 bytes = subst (λ (k : ℕ). length bytes ≡ whole_length k bytes) limited whole in
-              subst (λ (k : ℕ). Spelled k bytes) (sym limited)
-              (limited-data-spelled bytes fits head limited (positive _ limit) (ltb-false _ _ payload) exact)
+          | inr later ↦ elim later [
+            | inl limited ↦
+                let limit : (field_at 5 16 bytes == 0) ≡ false = subst (λ (k : ℕ). ((k == 4) && (field_at 5 16 bytes == 0)) ≡ false) limited none.limit in
+                let payload : nat_lt 8192 (field_at 2 21 bytes) ≡ false = subst (λ (k : ℕ). nat_lt 8192 (payload_length k bytes) ≡ false) limited none.payload in
+                let exact : length bytes ≡ whole_length 4 bytes = subst (λ (k : ℕ). length bytes ≡ whole_length k bytes) limited whole in
+                subst (λ (k : ℕ). Spelled k bytes) (sym limited)
+                (limited-data-spelled bytes fits head limited (positive _ limit) (ltb-false _ _ payload) exact)
+            | inr heard ↦
+                subst (λ (k : ℕ). Spelled k bytes) (sym heard) (heard-spelled bytes fits head heard (subst (λ (k : ℕ). length bytes ≡ whole_length k bytes) heard whole))
+          ]
         ]
       ]
     ])
@@ -183,6 +196,10 @@ custody-again from to a b c last p q r = rw (p, q, r) refl
 refused-again : (from to : StationId) (a b c number told : ℕ) → a ≡ from.0 → b ≡ to.0 → c ≡ number
     → (let found : Message (List ℕ) = Refused (record { 0 = a }) (record { 0 = b }) c told in found) ≡ Refused from to number told
 refused-again from to a b c number told p q r = rw (p, q, r) refl
+
+heard-again : (from to : StationId) (a b c d last bits : ℕ) → a ≡ from.0 → b ≡ to.0 → c ≡ last → d ≡ bits
+    → (let found : Message (List ℕ) = Heard (record { 0 = a }) (record { 0 = b }) c d in found) ≡ Heard from to last bits
+heard-again from to a b c d last bits p q r s = rw (p, q, r, s) refl
 
 pub reading-spelling : (m : Message (List ℕ)) → IsMessage m → message_or_fault (spelling m) ≡ Ok m
 unfolding spelling
@@ -253,6 +270,23 @@ reading-spelling (Refused from to number told) h =
       short = refl;
       long = refl;
     }) (refused-again from to _ _ _ number told a b c)
+reading-spelling (Heard from to last bits) h =
+    let a = two_again from.0 h.0.1 in
+    let b = two_again to.0 h.1.1 in
+    let c = eight_again last h.2 in
+    let d = eight_again bits h.3 in
+    reading-is (spelling (Heard from to last bits)) (Heard from to last bits) (record {
+      header = refl;
+      magic = refl;
+      version = refl;
+      kind = refl;
+      station = stations from.0 to.0 _ _ a b h.0.0 h.1.0;
+      fixed = refl;
+      limit = refl;
+      payload = refl;
+      short = refl;
+      long = refl;
+    }) (heard-again from to _ _ _ _ last bits a b c d)
 
 -- a message has one encoding
 pub spelling-once : (a b : Message (List ℕ)) → IsMessage a → IsMessage b → spelling a ≡ spelling b → a ≡ b
@@ -311,3 +345,4 @@ unfolding spelling
 spelling-within (Data from to number limit payload) fits = omega (arith, spelling-most from to number limit payload, fits.3)
 spelling-within (Custody from to last) fits = omega arith
 spelling-within (Refused from to number told) fits = omega arith
+spelling-within (Heard from to last bits) fits = omega arith

@@ -54,6 +54,7 @@ received-stations r (Heard (message.Data from to number limit payload)) =
     [ true ↦ (refl, refl) | false ↦ (refl, refl) ]
 received-stations r (Heard (message.Custody from to last)) = (refl, refl)
 received-stations r (Heard (message.Refused from to number refusal)) = (refl, refl)
+received-stations r (Heard (message.Heard from to last bits)) = (refl, refl)
 received-stations r (Answered any) =
     elim r.pending as (λ p. ((after_answer r p any).0.own ≡ r.own) × ((after_answer r p any).0.peer ≡ r.peer)) [ None ↦ (refl, refl) | Some k ↦ (refl, refl) ]
 received-stations r Lost = (refl, refl)
@@ -84,6 +85,7 @@ IsTaken-step r taken (Heard (message.Data from to number limit payload)) h =
     [ true ↦ (λ n e. e) | false ↦ h ]
 IsTaken-step r taken (Heard (message.Custody from to last)) h = h
 IsTaken-step r taken (Heard (message.Refused from to number refusal)) h = h
+IsTaken-step r taken (Heard (message.Heard from to last bits)) h = h
 IsTaken-step r taken (Answered any) h =
     (elim r.pending as (λ p. ((n : ℕ) → p ≡ Some n → taken ≡ Some n) → IsTaken (after_answer r p any).0 (last_take taken ((after_answer r p any).1 ∷ [])))
     [ None ↦ (λ none n e. h n e) | Some k ↦ (λ some n e. absurd cc) ]) h
@@ -163,6 +165,7 @@ received-custody r taken (Heard (message.Data a b number limit payload)) from to
     absurd cc
 received-custody r taken (Heard (message.Custody a b last)) from to n h e = absurd cc
 received-custody r taken (Heard (message.Refused a b number refusal)) from to n h e = absurd cc
+received-custody r taken (Heard (message.Heard a b last bits)) from to n h e = absurd cc
 received-custody r taken (Answered any) from to n h e = answered-custody r r.pending taken any from to n h e
 received-custody r taken Lost from to n h e = absurd cc
 
@@ -208,6 +211,7 @@ received-refused r taken (Heard (message.Data a b number limit payload)) from to
     absurd cc
 received-refused r taken (Heard (message.Custody a b last)) from to n code h e = absurd cc
 received-refused r taken (Heard (message.Refused a b number refusal)) from to n code h e = absurd cc
+received-refused r taken (Heard (message.Heard a b last bits)) from to n code h e = absurd cc
 received-refused r taken (Answered any) from to n code h e =
     let t = answered-refused r r.pending taken any from to n code h e in
     (t.0, t.1, t.2, (t.3.0, ap asked t.3.1, t.3.2))
@@ -252,6 +256,7 @@ received-take r (Heard (message.Data from to number limit' payload')) n limit pa
     (cc, rw take.0 cc)
 received-take r (Heard (message.Custody a b last)) n limit payload e = absurd cc
 received-take r (Heard (message.Refused a b number refusal)) n limit payload e = absurd cc
+received-take r (Heard (message.Heard a b last bits)) n limit payload e = absurd cc
 received-take r (Answered any) n limit payload e = absurd (answered-take r r.pending any n limit payload e)
 received-take r Lost n limit payload e = absurd cc
 
@@ -266,6 +271,7 @@ waiting r n (message.Data from to number limit payload) e =
     rw (and_right ((from.0 == r.peer.0) && (to.0 == r.own.0)) (is_none r.pending) some) refl
 waiting r n (message.Custody from to last) e = refl
 waiting r n (message.Refused from to number refusal) e = refl
+waiting r n (message.Heard from to last bits) e = refl
 
 pub silent : (r : Receiver) (n : ℕ) (heard : List (InEvent (List ℕ))) → r.pending ≡ Some n → AllByRecursion IsHeard heard
     → AllByRecursion (λ (named : Option (InAction (List ℕ))). named ≡ None) (in_actions r heard)

@@ -1,5 +1,6 @@
 -- Invariants of a sending core over its events, and the causes of its actions.
-use Rattle.std.proofs.Common.{◌≡◌, ℕ, ◌+◌, ◌-◌, ◌^◌, ◌≤◌, ◌<◌, Bool, true, false, not, ◌&&◌, ◌==◌, nat_lt, nat_le, max, if◌then◌else◌, List, [], ◌∷◌, ◌++◌, ◌⊎◌, inl, inr, Option, Some, None, is_some, refl, sym, ap, subst, ◌∙◌, arith}
+use Rattle.std.proofs.Common.{◌≡◌, ℕ, ◌+◌, ◌-◌, ◌^◌, ◌≤◌, ◌<◌, Bool, true, false, not, ◌&&◌, ◌||◌, ◌==◌, nat_lt, nat_le, max, if◌then◌else◌, List, [], ◌∷◌, ◌++◌, ◌⊎◌, inl, inr, Option, Some, None, is_some, refl, sym, ap, subst, ◌∙◌, arith}
+use Rattle.std.specs.List.{list_any}
 use Rattle.std.specs.Option.{option_map, option_map_or}
 use Rattle.std.proofs.lemmas.Bool.{and_parts, cases_lt, eqb-true, leb-true, ltb-true}
 use Rattle.rly_hop.specs.declared.message.StationId.{StationId}
@@ -11,8 +12,8 @@ use Rattle.rly_hop.specs.declared.sending.event.OutAction.{OutAction}
 use Rattle.rly_hop.specs.declared.sending.event.OutAction.TheVariants.{AskWindow, Release, Fetch, Pick, Send}
 use Rattle.rly_hop.specs.Rows.{first_row}
 use Rattle.rly_hop.specs.Sender.{IsInOrder, Sender}
-use Rattle.rly_hop.specs.Sending.{SendingResult, after_custody, is_unsure, after_release, sender, sending_step}
-use Rattle.rly_hop.specs.SendingRuns.{IsGiven, IsGivenBy, IsHeardInFlight, IsInFlight, sender_after}
+use Rattle.rly_hop.specs.Sending.{SendingResult, after_custody, is_unsure, after_release, repeat_action, sender, sending_step}
+use Rattle.rly_hop.specs.SendingRuns.{IsGiven, IsGivenBy, IsHeardInFlight, IsInFlight, IsSent, sender_after, sets_back}
 use Rattle.rly_hop.proofs.ReceivingLaws.{station-is}
 
 -- a fact of either branch
@@ -30,8 +31,12 @@ can_pick s number = s.ready && (number == s.next) && nat_lt number (2 ^ 64 - 1)
 abbrev can_send : Sender → ℕ → Bool
 can_send s number = s.ready && (number == s.cursor) && nat_lt s.cursor s.next
 
+-- the action that sends a datagram
+abbrev data_action : Sender → (number limit : ℕ) → List ℕ → OutAction (List ℕ)
+data_action s number limit payload = Send (message.Data s.own s.hop number limit payload)
+
 abbrev fetched : Sender → (number limit : ℕ) → List ℕ → SendingResult
-fetched s number limit payload = (record s { cursor = number + 1 }, Some (Send (message.Data s.own s.hop number limit payload)))
+fetched s number limit payload = (record s { cursor = number + 1 }, Some (data_action s number limit payload))
 
 abbrev can_acknowledge : Sender → StationId → StationId → ℕ → Bool
 can_acknowledge s from to last = (from.0 == s.hop.0) && (to.0 == s.own.0) && s.ready && nat_le s.first last && nat_lt last s.next
@@ -99,6 +104,7 @@ sent-stations s (Heard (message.Custody from to last)) =
     either (can_acknowledge s from to last) (record s { acked = Some (option_map_or (λ a. max a last) s.acked last) }) s (λ x. (x.own ≡ s.own) × (x.hop ≡ s.hop)) (λ _. (refl, refl)) (λ _. (refl, refl))
 sent-stations s (Heard (message.Data from to number limit payload)) = (refl, refl)
 sent-stations s (Heard (message.Refused from to number refusal)) = (refl, refl)
+sent-stations s (Heard (message.Heard from to last bits)) = (refl, refl)
 sent-stations s Timeout = (refl, refl)
 sent-stations s (Refused refusal) =
     either (is_unsure refusal) (record s { ready = false }) s (λ x. (x.own ≡ s.own) × (x.hop ≡ s.hop)) (λ _. (refl, refl)) (λ _. (refl, refl))
@@ -163,6 +169,7 @@ sent-in_order s Unchanged h = moved-in_order s s.acked refl h
 sent-in_order s (Heard (message.Custody from to last)) h = acknowledged-in_order s from to last h
 sent-in_order s (Heard (message.Data from to number limit payload)) h = h
 sent-in_order s (Heard (message.Refused from to number refusal)) h = h
+sent-in_order s (Heard (message.Heard from to last bits)) h = h
 sent-in_order s Timeout h = record { begun = omega arith; ended = omega (arith, h.begun, h.ended); acked = h.acked }
 sent-in_order s (Refused refusal) h =
     either (is_unsure refusal) (record s { ready = false }) s IsInOrder (λ _. record { begun = h.begun; ended = h.ended; acked = h.acked }) (λ _. h)
@@ -211,6 +218,7 @@ sent-flight s (Heard (message.Custody from to last)) n h flight =
     (λ _ found. inl (record { ready = found.ready; begun = found.begun; ended = found.ended })) (λ _ found. inl found) flight
 sent-flight s (Heard (message.Data from to number limit payload)) n h flight = inl flight
 sent-flight s (Heard (message.Refused from to number refusal)) n h flight = inl flight
+sent-flight s (Heard (message.Heard from to last bits)) n h flight = inl flight
 sent-flight s Timeout n h flight = inl (record { ready = flight.ready; begun = flight.begun; ended = flight.ended })
 sent-flight s (Refused refusal) n h flight =
     either (is_unsure refusal) (record s { ready = false }) s (Grown s (Refused refusal) n)
@@ -266,6 +274,7 @@ sent-acked s (Heard (message.Custody from to last)) n e =
     (λ _ found. inl found) e
 sent-acked s (Heard (message.Data from to number limit payload)) n e = inl e
 sent-acked s (Heard (message.Refused from to number refusal)) n e = inl e
+sent-acked s (Heard (message.Heard from to last bits)) n e = inl e
 sent-acked s Timeout n e = inl e
 sent-acked s (Refused refusal) n e =
     either (is_unsure refusal) (record s { ready = false }) s (Acked s (Refused refusal) n) (λ _ found. inl found) (λ _ found. inl found) e
@@ -358,6 +367,7 @@ sent-fetch s Unchanged n h e = absurd cc
 sent-fetch s (Heard (message.Custody from to last)) n h e = absurd cc
 sent-fetch s (Heard (message.Data from to number limit payload)) n h e = absurd cc
 sent-fetch s (Heard (message.Refused from to number refusal)) n h e = absurd cc
+sent-fetch s (Heard (message.Heard from to last bits)) n h e = absurd cc
 sent-fetch s Timeout n h e = absurd cc
 sent-fetch s (Refused refusal) n h e = absurd cc
 sent-fetch s Nothing n h e = absurd cc
@@ -377,6 +387,7 @@ sent-release s Unchanged n h e = absurd cc
 sent-release s (Heard (message.Custody from to last)) n h e = absurd cc
 sent-release s (Heard (message.Data from to number limit payload)) n h e = absurd cc
 sent-release s (Heard (message.Refused from to number refusal)) n h e = absurd cc
+sent-release s (Heard (message.Heard from to last bits)) n h e = absurd cc
 sent-release s Timeout n h e = absurd cc
 sent-release s (Refused refusal) n h e = absurd cc
 sent-release s Nothing n h e = absurd cc
@@ -402,6 +413,7 @@ sent-data s Unchanged from to n limit payload h e = absurd cc
 sent-data s (Heard (message.Custody a b last)) from to n limit payload h e = absurd cc
 sent-data s (Heard (message.Data a b number found bytes)) from to n limit payload h e = absurd cc
 sent-data s (Heard (message.Refused a b number refusal)) from to n limit payload h e = absurd cc
+sent-data s (Heard (message.Heard a b last bits)) from to n limit payload h e = absurd cc
 sent-data s Timeout from to n limit payload h e = absurd cc
 sent-data s (Refused refusal) from to n limit payload h e = absurd cc
 sent-data s Nothing from to n limit payload h e = absurd cc
@@ -422,3 +434,155 @@ heard-only own hop window events n e =
       | inl first ↦ absurd cc
       | inr found ↦ found
     ]
+
+-- ---- a number that is sent again was sent
+
+-- the number is below the cursor: it needn't be sent in its turn any more
+pub record IsPassed (s : Sender) (n : ℕ) : Type 0 where
+  pub begun : s.first ≤ n
+  pub ended : n < s.cursor
+
+-- the event is the answer on which the core sends this number
+record IsSentOn (s : Sender) (event : OutEvent (List ℕ)) (n : ℕ) : Type 0 where
+  limit : ℕ
+  payload : List ℕ
+  is : event ≡ Fetched n limit payload
+  sent : (sending_step s (Fetched n limit payload)).1 ≡ Some (data_action s n limit payload)
+
+-- the number was passed before and the event doesn't set the core back, or the core sends it on this event
+abbrev Passed : Sender → OutEvent (List ℕ) → ℕ → Sender → Type 0
+Passed s event n x = IsPassed x n → (IsPassed s n × (sets_back event ≡ false)) ⊎ IsSentOn s event n
+
+moved-passed : (s : Sender) (p : Option ℕ) (n : ℕ) → s.acked ≡ p → IsInOrder s → IsPassed (after_release s p) n → IsPassed s n
+moved-passed s None n e h passed = passed
+moved-passed s (Some a) n e h passed =
+    let within = h.acked a e in
+    record { begun = omega (arith, within.0, passed.begun); ended = omega (arith, passed.begun, passed.ended) }
+
+sending-now : (b : Bool) (s : Sender) (number limit : ℕ) (payload : List ℕ) → b ≡ true
+    → (let x : SendingResult = if b then fetched s number limit payload else (s, None) in x).1 ≡ Some (data_action s number limit payload)
+sending-now true s number limit payload e = refl
+sending-now false s number limit payload e = absurd cc
+
+fetched-passed : (s : Sender) (number limit : ℕ) (payload : List ℕ) (n : ℕ) → Passed s (Fetched number limit payload) n (sending_step s (Fetched number limit payload)).0
+fetched-passed s number limit payload n passed =
+    either (can_send s number) (fetched s number limit payload) (s, None) (λ x. Passed s (Fetched number limit payload) n x.0)
+    (λ test found.
+    let can = CanSend-from s number test in
+    elim (cases_lt n number) [
+      | inl lt ↦ inl (record { begun = found.begun; ended = omega (arith, lt, can.at) }, refl)
+      | inr le ↦
+          let is : number ≡ n = omega (arith, le, found.ended) in
+          let here : IsSentOn s (Fetched number limit payload) number = record { limit = limit; payload = payload; is = refl; sent = sending-now (can_send s number) s number limit payload test } in
+          inr (subst (λ (x : ℕ). IsSentOn s (Fetched number limit payload) x) is here)
+    ])
+    (λ _ found. inl (found, refl)) passed
+
+sent-passed : (s : Sender) (event : OutEvent (List ℕ)) (n : ℕ) → IsInOrder s → Passed s event n (sending_step s event).0
+sent-passed s (Turn is_open) n h passed = inl (passed, refl)
+sent-passed s (WindowIs first next) n h passed =
+    either (nat_le first next) (windowed s first next) s (Passed s (WindowIs first next) n)
+    (λ _ found. absurd (omega (arith, found.begun, found.ended))) (λ test found. inl (found, test)) passed
+sent-passed s (Picked number) n h passed =
+    either (can_pick s number) (record s { next = number + 1 }) s (Passed s (Picked number) n)
+    (λ _ found. inl (record { begun = found.begun; ended = found.ended }, refl)) (λ _ found. inl (found, refl)) passed
+sent-passed s (Fetched number limit payload) n h passed = fetched-passed s number limit payload n passed
+sent-passed s Released n h passed = inl (moved-passed s s.acked n refl h passed, refl)
+sent-passed s Unchanged n h passed = inl (moved-passed s s.acked n refl h passed, refl)
+sent-passed s (Heard (message.Custody from to last)) n h passed =
+    either (can_acknowledge s from to last) (record s { acked = Some (option_map_or (λ a. max a last) s.acked last) }) s (Passed s (Heard (message.Custody from to last)) n)
+    (λ _ found. inl (record { begun = found.begun; ended = found.ended }, refl)) (λ _ found. inl (found, refl)) passed
+sent-passed s (Heard (message.Data from to number limit payload)) n h passed = inl (passed, refl)
+sent-passed s (Heard (message.Refused from to number refusal)) n h passed = inl (passed, refl)
+sent-passed s (Heard (message.Heard from to last bits)) n h passed = inl (passed, refl)
+sent-passed s Timeout n h passed = absurd (omega (arith, passed.begun, passed.ended))
+sent-passed s (Refused refusal) n h passed =
+    either (is_unsure refusal) (record s { ready = false }) s (Passed s (Refused refusal) n)
+    (λ _ found. inl (record { begun = found.begun; ended = found.ended }, refl)) (λ _ found. inl (found, refl)) passed
+sent-passed s Nothing n h passed = inl (passed, refl)
+sent-passed s Other n h passed = inl (passed, refl)
+
+-- what a core of the same stations sends
+data-of : (s t : Sender) (n limit : ℕ) (payload : List ℕ) → t.own ≡ s.own → t.hop ≡ s.hop → data_action t n limit payload ≡ data_action s n limit payload
+data-of s t n limit payload own hop = cc
+
+-- neither of the events sets the core back
+neither : (a b : Bool) → a ≡ false → b ≡ false → (a || b) ≡ false
+neither false b p q = q
+neither true b p q = absurd cc
+
+passed-sent : (s : Sender) (events : List (OutEvent (List ℕ))) (n : ℕ) → IsInOrder s → IsPassed (sender_after s events) n
+    → (IsPassed s n × (list_any sets_back events ≡ false)) ⊎ IsSent s events n
+passed-sent s [] n h passed = inl (passed, refl)
+passed-sent s (event ∷ events) n h passed =
+    elim (passed-sent (sending_step s event).0 events n (sent-in_order s event h) passed) [
+      | inl now ↦ elim (sent-passed s event n h now.0) [
+        | inl before ↦ inl (before.0, neither (sets_back event) (list_any sets_back events) before.1 now.1)
+        | inr here ↦ inr (record {
+          earlier = [];
+          later = events;
+          limit = here.limit;
+          payload = here.payload;
+          parts = ap (λ (x : OutEvent (List ℕ)). x ∷ events) here.is;
+          sent = here.sent;
+          since = now.1;
+        })
+      ]
+      | inr found ↦
+          let stations = sent-stations s event in
+          let same = data-of s (sending_step s event).0 n found.limit found.payload stations.0 stations.1 in
+          inr (record {
+            earlier = event ∷ found.earlier;
+            later = found.later;
+            limit = found.limit;
+            payload = found.payload;
+            parts = ap (λ (x : List (OutEvent (List ℕ))). event ∷ x) found.parts;
+            sent = found.sent ∙ ap (λ (x : OutAction (List ℕ)). let o : Option (OutAction (List ℕ)) = Some x in o) same;
+            since = found.since;
+          })
+    ]
+
+pub passed-only : (own hop : StationId) (window : ℕ) (events : List (OutEvent (List ℕ))) (n : ℕ) → IsPassed (sender_after (sender own hop window) events) n → IsSent (sender own hop window) events n
+passed-only own hop window events n passed =
+    elim (passed-sent (sender own hop window) events n (sender-in_order own hop window) passed) [
+      | inl first ↦ absurd (omega (arith, first.0.begun, first.0.ended))
+      | inr sent ↦ sent
+    ]
+
+-- what the test of a number that is sent again says
+pub record CanRepeat (s : Sender) (n limit : ℕ) (payload : List ℕ) (action : OutAction (List ℕ)) : Type 0 where
+  pub ready : s.ready ≡ true
+  pub passed : IsPassed s n
+  pub is : action ≡ data_action s n limit payload
+
+repeating : (b : Bool) (again action : OutAction (List ℕ)) → (let x : Option (OutAction (List ℕ)) = if b then Some again else None in x) ≡ Some action → (b ≡ true) × (action ≡ again)
+repeating true again action e = (refl, cc)
+repeating false again action e = absurd cc
+
+pub CanRepeat-from : (s : Sender) (n limit : ℕ) (payload : List ℕ) (action : OutAction (List ℕ)) → repeat_action s n limit payload ≡ Some action → CanRepeat s n limit payload action
+CanRepeat-from s n limit payload action e =
+    let found = repeating (s.ready && nat_le s.first n && nat_lt n s.cursor) (data_action s n limit payload) action e in
+    let both = and_parts (s.ready && nat_le s.first n) (nat_lt n s.cursor) found.0 in
+    let front = and_parts s.ready (nat_le s.first n) both.0 in
+    record {
+      ready = front.0;
+      passed = record { begun = leb-true s.first n front.1; ended = ltb-true n s.cursor both.1 };
+      is = found.1;
+    }
+
+pub repeat-flight : (s : Sender) (n limit : ℕ) (payload : List ℕ) (action : OutAction (List ℕ)) → IsInOrder s → repeat_action s n limit payload ≡ Some action → IsInFlight s n
+repeat-flight s n limit payload action h e =
+    let can = CanRepeat-from s n limit payload action e in
+    record { ready = can.ready; begun = can.passed.begun; ended = omega (arith, can.passed.ended, h.ended) }
+
+pub repeat-is : (own hop : StationId) (window : ℕ) (events : List (OutEvent (List ℕ))) (n limit : ℕ) (payload : List ℕ) (action : OutAction (List ℕ))
+    → repeat_action (sender_after (sender own hop window) events) n limit payload ≡ Some action → action ≡ Send (message.Data own hop n limit payload)
+repeat-is own hop window events n limit payload action e =
+    let stations = sender_after-stations (sender own hop window) events in
+    (CanRepeat-from (sender_after (sender own hop window) events) n limit payload action e).is
+    ∙ data-of (sender own hop window) (sender_after (sender own hop window) events) n limit payload stations.0 stations.1
+
+pub fetched-again : (s : Sender) (number limit : ℕ) (payload : List ℕ) → number < s.cursor → sending_step s (Fetched number limit payload) ≡ (s, None)
+fetched-again s number limit payload below =
+    either (can_send s number) (fetched s number limit payload) (s, None) (λ x. x ≡ (s, None))
+    (λ test. let can = CanSend-from s number test in absurd (omega (arith, can.at, below))) (λ _. refl)

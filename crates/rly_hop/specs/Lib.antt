@@ -4,6 +4,7 @@ pub mod HelpersKinds
 pub mod Spelling
 pub mod MessageReads
 pub mod FixedBytes
+pub mod HeardBits
 pub mod Receiver
 pub mod Receiving
 pub mod Sender

@@ -7,7 +7,7 @@ use Rattle.rly_core.specs.declared.refusal.Refusal.{Refusal}
 use Rattle.rly_core.specs.declared.refusal.Refusal.TheVariants.{Short, Long, Magic, Version, Kind, Station}
 use Rattle.rly_hop.specs.declared.message.StationId.{StationId}
 use Rattle.rly_hop.specs.declared.message.Message.{Message}
-use Rattle.rly_hop.specs.declared.message.Message.TheVariants.{Data, Custody, Refused}
+use Rattle.rly_hop.specs.declared.message.Message.TheVariants.{Data, Custody, Refused, Heard}
 use Rattle.rly_hop.specs.Rows.{first_row}
 
 -- the number of this width in bytes, at an offset
@@ -18,9 +18,14 @@ field_at width place bytes = big_number width (drop place bytes)
 abbrev pub kind_of : List ℕ → ℕ
 kind_of bytes = slice_index bytes 3
 
+-- whether a kind is known
+abbrev pub is_known_kind : ℕ → Bool
+is_known_kind kind = (kind == 1) || (kind == 2) || (kind == 3) || (kind == 4) || (kind == 5)
+
 -- the minimum length of a message of this kind
 abbrev pub fixed_length : ℕ → ℕ
-fixed_length kind = if kind == 1 then 18 else if kind == 2 then 16 else if kind == 3 then 17 else 23
+fixed_length kind =
+    if kind == 1 then 18 else if kind == 2 then 16 else if kind == 3 then 17 else if kind == 4 then 23 else 24
 
 -- the length of the payload, as a message of this kind states it
 abbrev pub payload_length : ℕ → List ℕ → ℕ
@@ -37,7 +42,7 @@ header_faults bytes =
     (nat_lt (length bytes) 8, Some Short)
     ∷ (not (field_at 2 0 bytes == 0x524c), Some Magic)
     ∷ (not (slice_index bytes 2 == 1), Some Version)
-    ∷ (not ((kind_of bytes == 1) || (kind_of bytes == 2) || (kind_of bytes == 3) || (kind_of bytes == 4)), Some Kind)
+    ∷ (not (is_known_kind (kind_of bytes)), Some Kind)
     ∷ ((field_at 2 4 bytes == 0) || (field_at 2 6 bytes == 0), Some Station)
     ∷ []
 
@@ -71,7 +76,9 @@ message_at kind bytes =
     else if kind == 4
     then Data (station_at 4 bytes) (station_at 6 bytes) (field_at 8 8 bytes) (field_at 5 16 bytes) (drop 23 bytes)
     else if kind == 2 then Custody (station_at 4 bytes) (station_at 6 bytes) (field_at 8 8 bytes)
-    else Refused (station_at 4 bytes) (station_at 6 bytes) (field_at 8 8 bytes) (slice_index bytes 16)
+    else if kind == 3
+    then Refused (station_at 4 bytes) (station_at 6 bytes) (field_at 8 8 bytes) (slice_index bytes 16)
+    else Heard (station_at 4 bytes) (station_at 6 bytes) (field_at 8 8 bytes) (field_at 8 16 bytes)
 
 -- the value, or the fault if there is one
 abbrev pub found_unless : {A : Type 0} → Option Refusal → A → Result A Refusal

@@ -17,6 +17,7 @@ abbrev pub message_map : {P Q : Type 0} → (P → Q) → Message P → Message 
 message_map f (message.Data from to number limit payload) = message.Data from to number limit (f payload)
 message_map f (message.Custody from to last) = message.Custody from to last
 message_map f (message.Refused from to number refusal) = message.Refused from to number refusal
+message_map f (message.Heard from to last bits) = message.Heard from to last bits
 
 -- the message, seen as the bytes that it borrows
 abbrev pub message_bytes : Message (Bor (List ℕ)) → Message (List ℕ)

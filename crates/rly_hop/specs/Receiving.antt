@@ -50,6 +50,7 @@ receiving_step r (Heard (message.Data from to number limit payload)) =
     then (record r { pending = Some number }, Some (Take number limit payload)) else (r, None)
 receiving_step r (Heard (message.Custody from to last)) = (r, None)
 receiving_step r (Heard (message.Refused from to number refusal)) = (r, None)
+receiving_step r (Heard (message.Heard from to last bits)) = (r, None)
 receiving_step r (Answered any) = after_answer r r.pending any
 receiving_step r Lost = (record r { pending = None }, None)
 

@@ -40,9 +40,20 @@ after_custody s from to last =
     if (from.0 == s.hop.0) && (to.0 == s.own.0) && s.ready && nat_le s.first last && nat_lt last s.next
     then record s { acked = Some (option_map_or (λ a. max a last) s.acked last) } else s
 
+-- whether a Heard of the numbers up to last, and of some after it, is on the flight
+abbrev pub reports_flight : Sender → StationId → StationId → ℕ → Bool
+reports_flight s from to last =
+    (from.0 == s.hop.0) && (to.0 == s.own.0) && s.ready && nat_le (s.first - 1) last && nat_lt last s.next
+
 -- the refusals after which the core asks for the window again
 abbrev pub is_unsure : Refusal → Bool
 is_unsure refusal = list_any (λ unsure. number_of refusal == unsure) (9 ∷ 10 ∷ 11 ∷ 12 ∷ 31 ∷ [])
+
+-- the action that sends a number again: one in flight that the core has sent, which is below its cursor
+abbrev pub repeat_action : Sender → ℕ → ℕ → List ℕ → Option (OutAction (List ℕ))
+repeat_action s number limit payload =
+    if s.ready && nat_le s.first number && nat_lt number s.cursor
+    then Some (Send (message.Data s.own s.hop number limit payload)) else None
 
 -- each event, row by row: the first row that matches decides
 abbrev pub sending_step : Sender → OutEvent (List ℕ) → SendingResult
@@ -62,6 +73,7 @@ sending_step s Unchanged = (after_release s s.acked, None)
 sending_step s (Heard (message.Custody from to last)) = (after_custody s from to last, None)
 sending_step s (Heard (message.Data from to number limit payload)) = (s, None)
 sending_step s (Heard (message.Refused from to number refusal)) = (s, None)
+sending_step s (Heard (message.Heard from to last bits)) = (s, None)
 sending_step s Timeout = (record s { cursor = s.first }, None)
 sending_step s (Refused refusal) = (if is_unsure refusal then record s { ready = false } else s, None)
 sending_step s Nothing = (s, None)

@@ -7,7 +7,7 @@ use Rattle.rly_core.specs.declared.refusal.Refusal.{Refusal}
 use Rattle.rly_core.specs.declared.refusal.Refusal.TheVariants as refusal
 use Rattle.rly_hop.specs.declared.message.StationId.{StationId}
 use Rattle.rly_hop.specs.declared.message.Message.{Message}
-use Rattle.rly_hop.specs.declared.message.Message.TheVariants.{Data, Custody, Refused}
+use Rattle.rly_hop.specs.declared.message.Message.TheVariants.{Data, Custody, Refused, Heard}
 use Rattle.rly_hop.specs.Rows.{first_row}
 
 -- the header of every message: the protocol's two bytes, version 1, its kind, the source and destination stations
@@ -22,6 +22,7 @@ spelling (Data from to number (suc limit) payload) =
     header 4 from to ++ big_bytes 8 number ++ big_bytes 5 (suc limit) ++ big_bytes 2 (length payload) ++ payload
 spelling (Custody from to last) = header 2 from to ++ big_bytes 8 last
 spelling (Refused from to number told) = header 3 from to ++ big_bytes 8 number ++ told ∷ []
+spelling (Heard from to last bits) = header 5 from to ++ big_bytes 8 last ++ big_bytes 8 bits
 
 -- a valid station number
 abbrev pub IsStation : StationId → Type 0
@@ -33,6 +34,7 @@ IsMessage (Data from to number limit payload) =
     IsStation from × IsStation to × (number < 2 ^ 64) × (length payload ≤ 8192) × (limit < 2 ^ 40)
 IsMessage (Custody from to last) = IsStation from × IsStation to × (last < 2 ^ 64)
 IsMessage (Refused from to number told) = IsStation from × IsStation to × (number < 2 ^ 64) × (told < 256)
+IsMessage (Heard from to last bits) = IsStation from × IsStation to × (last < 2 ^ 64) × (bits < 2 ^ 64)
 
 -- one of two stations is 0
 abbrev pub lacks_station : StationId → StationId → Bool
@@ -48,6 +50,7 @@ write_refusal (Data from to number limit payload) =
     ∷ []) None
 write_refusal (Custody from to last) = first_row ((lacks_station from to, Some refusal.Station) ∷ []) None
 write_refusal (Refused from to number told) = first_row ((lacks_station from to, Some refusal.Station) ∷ []) None
+write_refusal (Heard from to last bits) = first_row ((lacks_station from to, Some refusal.Station) ∷ []) None
 
 -- the length of the longest message whose payload has at most this many bytes: a Data with a limit. A payload has
 -- at most 8,192

@@ -1,6 +1,6 @@
-ghost use Rattle.std.specs.Prelude.{◌≡◌, ◌==◌, ◌||◌, false, IfNone, IfSome};
+ghost use Rattle.std.specs.Prelude.{◌≡◌, false, IfNone, IfSome};
 ghost use Rattle.rly_hop.specs.HelpersKinds.{message_kind_byte};
-ghost use Rattle.rly_hop.specs.MessageReads.{fixed_length};
+ghost use Rattle.rly_hop.specs.MessageReads.{fixed_length, is_known_kind};
 
 /// The kinds of message.
 #[derive(Clone, Copy, PartialEq, Eq)]
@@ -9,19 +9,21 @@ pub(crate) enum Kind {
     Custody = 2,
     Refused = 3,
     LimitedData = 4,
+    Heard = 5,
 }
 
 impl Kind {
     /// The kind of a byte: `None` for an unknown one.
     pub(crate) fn from_byte(byte: u8) -> Option<Kind>
         ensures known { IfSome result (λ kind. byte ≡ message_kind_byte kind) }
-        ensures unknown { IfNone result (((byte == 1) || (byte == 2) || (byte == 3) || (byte == 4)) ≡ false) }
+        ensures unknown { IfNone result (is_known_kind byte ≡ false) }
     {
         match byte {
             1 => Some(Kind::Data),
             2 => Some(Kind::Custody),
             3 => Some(Kind::Refused),
             4 => Some(Kind::LimitedData),
+            5 => Some(Kind::Heard),
             _ => None,
         }
     }
@@ -42,6 +44,7 @@ impl Kind {
             Kind::Custody => 16,
             Kind::Refused => 17,
             Kind::LimitedData => 23,
+            Kind::Heard => 24,
         }
     }
 }

@@ -1,10 +1,12 @@
 //! Laws of the definitions, each the contract of a function without a body. The contracts of
 //! `read_message`, `write_message` and the two `step`s cite the same definitions.
 
+mod heard_bits;
 mod messages;
 mod receiving;
 mod sending;
 
+pub use crate::laws::heard_bits::law_marks;
 pub use crate::laws::messages::{
     law_longest_message, law_no_fault_is_a_spelling, law_one_spelling,
 };
@@ -14,5 +16,5 @@ pub use crate::laws::receiving::{
 };
 pub use crate::laws::sending::{
     law_cursor_is_in_order, law_data_is_what_was_fetched, law_fetch_was_given,
-    law_release_was_acknowledged,
+    law_fetched_again_changes_nothing, law_release_was_acknowledged, law_repeat_was_sent,
 };

@@ -36,10 +36,22 @@ pub enum Message<P> {
         number: u64,
         refusal: u8,
     },
+    /// Kind 5: reports which of the 64 numbers after `last`, the last one stored, have arrived: a bit is set (`marks`)
+    /// if its Data is kept ahead of a gap or was refused. It acknowledges nothing.
+    Heard {
+        from: StationId,
+        to: StationId,
+        last: u64,
+        /// The greatest bit is number `last + 1`, the least `last + 64`.
+        bits: u64,
+    },
 }
 
 /// The length of the longest message in bytes: a Data with a limit and a payload of 8,192.
 pub const MAX_MESSAGE: usize = 8_215;
+
+/// The length of a Heard in bytes.
+pub const HEARD_LENGTH: usize = 24;
 
 /// The length in bytes of the longest message whose payload has at most this many bytes, to size buffers for the
 /// messages of a spool. A payload has at most 8,192 bytes.
@@ -71,6 +83,8 @@ pub(crate) mod place {
     pub const NUMBER: usize = 8;
 
     pub const REFUSAL: usize = 16;
+
+    pub const BITS: usize = 16;
 
     pub const LENGTH: usize = 16;
 

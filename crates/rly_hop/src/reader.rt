@@ -95,7 +95,7 @@ fn payload_length(kind: Kind, bytes: &[u8]) -> usize
     match kind {
         Kind::Data => usize::from(BigEndian::read_u16(&bytes[place::LENGTH..])),
         Kind::LimitedData => usize::from(BigEndian::read_u16(&bytes[place::LIMITED_LENGTH..])),
-        Kind::Custody | Kind::Refused => 0,
+        Kind::Custody | Kind::Refused | Kind::Heard => 0,
     }
 }
 
@@ -175,6 +175,12 @@ fn fields_of(header: Header, bytes: &[u8]) -> Message<&[u8]>
             to,
             number,
             refusal: bytes[place::REFUSAL],
+        },
+        Kind::Heard => Message::Heard {
+            from,
+            to,
+            last: number,
+            bits: BigEndian::read_u64(&bytes[place::BITS..]),
         },
     }
 }

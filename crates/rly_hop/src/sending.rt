@@ -1,7 +1,8 @@
 ghost use Rattle.std.specs.Prelude.{◌≡◌, ◌+◌, ◌-◌, is_some, not, true, List, ℕ};
 ghost use Rattle.std.specs.Option.{option_map};
 ghost use Rattle.rly_hop.specs.Payloads.{out_action_bytes, out_event_bytes};
-ghost use Rattle.rly_hop.specs.Sending.{after_custody, after_release, is_unsure, sender, sending_step, turn_action};
+ghost use Rattle.rly_hop.specs.Sending.{after_custody, after_release, is_unsure, repeat_action, reports_flight, sender};
+ghost use Rattle.rly_hop.specs.Sending.{sending_step, turn_action};
 
 mod event;
 
@@ -104,6 +105,18 @@ impl Sending {
         self.acked.is_some()
     }
 
+    /// Whether a Heard with this `last` is on the flight: it is from the hop's station to the own one, and no other number
+    /// than those in flight and the one before them is its last.
+    pub fn reports_flight(&self, from: StationId, to: StationId, last: u64) -> bool
+        ensures { result ≡ reports_flight self.now from to last }
+    {
+        from == self.hop
+            && to == self.own
+            && self.ready
+            && self.first.saturating_sub(1) <= last
+            && last < self.next
+    }
+
     /// The number that the next datagram gets when it enters the flight.
     pub fn next(&self) -> u64
         ensures { result ≡ self.now.next }
@@ -192,13 +205,38 @@ impl Sending {
             return None;
         }
         self.cursor = number + 1;
-        Some(OutAction::Send(Message::Data {
+        Some(self.data_action(number, limit, payload))
+    }
+
+    /// The message that sends a number again, with the limit and the payload that were fetched for it. The core stays
+    /// as it is. `None` unless the number is in flight and was sent since the core learned the window or, if that is
+    /// later, since the last `Timeout`: the other numbers are still to be sent in order.
+    pub fn repeat<'a>(
+        &self,
+        number: u64,
+        limit: u64,
+        payload: &'a [u8],
+    ) -> Option<OutAction<&'a [u8]>>
+        ensures { option_map out_action_bytes result ≡ repeat_action self.now number limit payload.now }
+    {
+        if !self.ready || number < self.first || number >= self.cursor {
+            return None;
+        }
+        Some(self.data_action(number, limit, payload))
+    }
+
+    /// The action that sends this payload and its limit to the hop's station under this number.
+    fn data_action<'a>(&self, number: u64, limit: u64, payload: &'a [u8]) -> OutAction<&'a [u8]>
+        ensures { out_action_bytes result ≡
+            OutAction.Send (Message.Data self.now.own self.now.hop number limit payload.now) }
+    {
+        OutAction::Send(Message::Data {
             from: self.own,
             to: self.hop,
             number,
             limit,
             payload,
-        }))
+        })
     }
 
     /// A release was answered: the acknowledged numbers leave the flight.

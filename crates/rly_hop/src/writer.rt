@@ -3,11 +3,12 @@ ghost use Rattle.std.specs.Result.{result_err};
 ghost use Rattle.byteorder.specs.Endian.{big_bytes};
 ghost use Rattle.rly_hop.specs.Payloads.{message_bytes};
 ghost use Rattle.rly_hop.specs.Spelling.{IsMessage, IsStation, header, lacks_station, spelling, write_refusal};
+ghost use Rattle.rly_hop.specs.FixedBytes.{heard_packet};
 ghost use Rattle.rly_hop.specs.HelpersKinds.{message_kind_byte};
 ghost use Rattle.rly_hop.specs.Rows.{first_row};
 
 use crate::kind::Kind;
-use crate::message::{MAGIC, MAX_MESSAGE, Message, StationId, VERSION, place};
+use crate::message::{HEARD_LENGTH, MAGIC, MAX_MESSAGE, Message, StationId, VERSION, place};
 use byteorder::{BigEndian, ByteOrder};
 use rly_core::Refusal;
 use rly_core::limits::{AGE_LIMIT, MAX_PAYLOAD};
@@ -48,7 +49,37 @@ pub fn write_message(message: Message<&[u8]>, out: &mut [u8]) -> Result<usize, R
             out[place::REFUSAL] = refusal;
             Ok(Kind::Refused.fixed_length())
         }
+        Message::Heard {
+            from,
+            to,
+            last,
+            bits,
+        } => {
+            check_stations(from, to)?;
+            write_front(out, Kind::Heard, from, to, last);
+            write_bits(out, bits);
+            Ok(Kind::Heard.fixed_length())
+        }
     }
+}
+
+/// A Heard as a packet of its own. `None` from or to station 0.
+#[tactic(auto, unfolding(crate::specs::Spelling::spelling))]
+pub fn heard_packet(
+    from: StationId,
+    to: StationId,
+    last: u64,
+    bits: u64,
+) -> Option<[u8; HEARD_LENGTH]>
+    ensures { result ≡ heard_packet from to last bits }
+{
+    if from.0 == 0 || to.0 == 0 {
+        return None;
+    }
+    let mut packet = [0; HEARD_LENGTH];
+    write_front(&mut packet, Kind::Heard, from, to, last);
+    write_bits(&mut packet, bits);
+    Some(packet)
 }
 
 /// Encodes a Data, with a limit or without one.
@@ -107,6 +138,14 @@ fn write_front(out: &mut [u8], kind: Kind, from: StationId, to: StationId, numbe
     BigEndian::write_u16(&mut out[place::FROM..], from.0);
     BigEndian::write_u16(&mut out[place::TO..], to.0);
     BigEndian::write_u64(&mut out[place::NUMBER..], number);
+}
+
+/// Writes the bits of a Heard.
+fn write_bits(out: &mut [u8], bits: u64)
+    requires { 24 ≤ length out.old }
+    ensures { out.new ≡ take 16 out.old ++ big_bytes 8 bits ++ drop 24 out.old }
+{
+    BigEndian::write_u64(&mut out[place::BITS..], bits);
 }
 
 /// Writes the limit of a Data.

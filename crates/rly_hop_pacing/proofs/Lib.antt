@@ -1,2 +1,2 @@
 pub mod RateLaws
-pub mod WindowLaws
+pub mod Numbers

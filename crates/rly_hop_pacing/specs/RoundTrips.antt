@@ -23,9 +23,10 @@ abbrev pub after_sample : Option RoundTrip → ℕ → RoundTrip
 after_sample None passed = first_round_trip (min passed 4294967295)
 after_sample (Some t) passed = next_round_trip t (min passed 4294967295)
 
--- RFC 6298, (2.3): the round trip and four times the variation, but at least the clock's granularity, a microsecond
+-- RFC 6298, (2.3): the round trip and four times the variation, but at least the clock's granularity, a microsecond;
+-- and at least half a round trip more, since a repeat that is known to be needed goes out a quarter after it
 abbrev pub measured_wait : RoundTrip → ℕ
-measured_wait t = t.smoothed + max 1 (4 * t.variation)
+measured_wait t = t.smoothed + max (max (4 * t.variation) (t.smoothed / 2)) 1
 
 -- the wait before a Timeout that isn't doubled: RFC 6298, (2.1) has the second before the first sample
 abbrev pub plain_wait : ℕ → Option RoundTrip → ℕ

@@ -1,39 +1,83 @@
--- The congestion window: how many datagrams may be in flight to a hop (RFC 5681, section 3.1).
-use Rattle.std.specs.Prelude.{ℕ, zero, suc, ◌+◌, ◌-◌, ◌/◌, nat_le, nat_lt, if◌then◌else◌, max, min}
-use Rattle.rly_hop_pacing.specs.declared.flight.Flight.{Flight}
+-- How many datagrams may be on the way to a hop whose rate isn't known (after BBR; docs/PROTOCOL.md, "The pace of a
+-- hop"). Times are microseconds.
+use Rattle.std.specs.Prelude.{ℕ, ◌+◌, ◌-◌, ◌*◌, ◌/◌, ◌^◌, ◌==◌, min, max, nat_le, nat_lt, Bool, true, false, not}
+use Rattle.std.specs.Prelude.{◌&&◌, ◌||◌, if◌then◌else◌}
 use Rattle.rly_hop_pacing.specs.declared.congestion.Congestion.{Congestion}
+use Rattle.rly_hop_pacing.specs.declared.congestion.DeliveryRate.{DeliveryRate}
+use Rattle.rly_hop_pacing.specs.declared.congestion.Span.{Span}
 
--- The start, and each opening of a contact: ten (RFC 6928, section 2), and no threshold below the hop's window (RFC
--- 5681, section 3.1, has the first one arbitrarily high).
-abbrev pub first_congestion : ℕ → Congestion
-first_congestion
-    window = record { window = window; allowed = min 10 window; threshold = window; counted = 0; recover = 0 }
+-- the faster of two rates
+abbrev pub faster : DeliveryRate → DeliveryRate → DeliveryRate
+faster a b = if nat_lt (a.numbers * b.micros) (b.numbers * a.micros) then b else a
 
--- RFC 5681, (2) and (3): one number was covered. Up to the threshold each adds one, above it each full window of
--- them. The maximum is the hop's window.
-abbrev pub grown_once : Congestion → Congestion
-grown_once c =
-    if nat_le c.window c.allowed then c
-    else (if nat_lt c.allowed c.threshold then record c { allowed = c.allowed + 1 }
-    else (if nat_lt c.counted (c.allowed - 1) then record c { counted = c.counted + 1 }
-    else record c { allowed = c.allowed + 1; counted = 0 }))
+-- how many numbers are heard in this many microseconds at this many sixteenths of a rate, rounded up
+abbrev pub passed_in : DeliveryRate → (micros sixteenths : ℕ) → ℕ
+passed_in r micros sixteenths =
+    (r.numbers * micros * sixteenths + (16 * max r.micros 1 - 1)) / (16 * max r.micros 1)
 
--- this many numbers were covered
-abbrev pub congestion_after_custody : Congestion → ℕ → Congestion
-congestion_after_custody c zero = c
-congestion_after_custody c (suc count) = congestion_after_custody (grown_once c) count
+-- no round yet, and one round more
+abbrev pub first_span : Span
+first_span = record { rate = record { numbers = 0; micros = 1 }; shortest = 2 ^ 32 - 1 }
 
--- RFC 5681, (4): a Timeout. One may be in flight, and the threshold is half of the flight, at least two. Up to the
--- highest number sent before, numbers are sent again one by one.
-abbrev pub congestion_after_timeout : Congestion → Flight → Congestion
-congestion_after_timeout c flight = record c {
-  allowed = 1;
-  threshold = max 2 ((flight.highest - flight.covered) / 2);
-  counted = 0;
-  recover = flight.highest;
+abbrev pub span_with : Span → DeliveryRate → Span
+span_with s rate = record { rate = faster s.rate rate; shortest = min s.shortest rate.micros }
+
+-- The start, and each opening of a contact: ten (RFC 6928), or the hop's window if its rate is known.
+abbrev pub first_congestion : (window : ℕ) → (is_rated : Bool) → Congestion
+first_congestion window is_rated = record {
+  window = min window 64;
+  is_rated = is_rated;
+  allowed = if is_rated then min window 64 else min (min window 64) 10;
+  is_starting = true;
+  span = first_span;
+  before = first_span;
+  rounds = 0;
+  calm = 0;
 }
 
--- How many more numbers may be sent. While a number that was sent before the last Timeout isn't covered, only the
--- first uncovered number may (RFC 6582, section 3.2, sends one for each acknowledgment that leaves some uncovered).
-abbrev pub room : Congestion → Flight → ℕ
-room c flight = (if nat_lt flight.covered c.recover then 1 else c.allowed) - (flight.reached - flight.covered)
+-- the shortest round of this span and the one before
+abbrev pub shortest : Congestion → ℕ
+shortest c = min c.span.shortest c.before.shortest
+
+-- a buffer of the link fills: a round trip takes an eighth longer than the shortest round
+abbrev pub is_full : Congestion → ℕ → Bool
+is_full c trip = nat_le (shortest c + shortest c / 8) trip
+
+-- How many numbers count as heard in a round: those that were, and, unless the link is full or the window still
+-- doubles, what was sent again, up to half as many.
+abbrev pub numbers_of : Congestion → (heard repeats trip : ℕ) → ℕ
+numbers_of c heard repeats trip =
+    min (min (heard + (if c.is_starting || is_full c trip then 0 else min repeats (heard / 2))) (2 ^ 64 - 1)) (2 ^ 16 - 1)
+
+-- a round of a span of eight is over; after the last, another span begins
+abbrev pub with_step : Congestion → Congestion
+with_step c =
+    if nat_lt c.rounds 7 then record c { rounds = c.rounds + 1 }
+    else record c { rounds = 0; is_starting = false; before = c.span; span = first_span }
+
+-- The window that keeps the greatest rate of two spans: twice as much as it brings in the shortest round while
+-- starting, then an eighth more, and in the first round of a span a sixteenth less.
+abbrev pub fitting : Congestion → ℕ
+fitting c =
+    let rate = faster c.span.rate c.before.rate in
+    min (if c.is_starting then max (passed_in rate (shortest c) 32) 10
+    else (if c.rounds == 0 then max (passed_in rate (shortest c) 15) 4 else max (passed_in rate (shortest c) 18) 4))
+    c.window
+
+-- the window after a round in which it was used up: after 64 rounds without a repeat it grows by one
+abbrev pub widened : Congestion → Congestion
+widened c =
+    if not c.is_starting && nat_le 64 c.calm then record c { allowed = min (c.allowed + 1) c.window }
+    else record (with_step c) { allowed = fitting (with_step c) }
+
+-- A round is over: the rate at which numbers were heard in it, whether it had repeats, and whether the link is full.
+abbrev pub with_round : Congestion → (heard micros repeats trip : ℕ) → Congestion
+with_round c heard micros repeats trip =
+    let span = span_with c.span (record { numbers = numbers_of c heard repeats trip; micros = max (min micros (2 ^ 32 - 1)) 1 }) in
+    let calm = if nat_lt 0 repeats then 0 else min (c.calm + 1) (2 ^ 64 - 1) in
+    record c { span = span; calm = calm; is_starting = c.is_starting && not (is_full (record c { span = span }) trip) }
+
+abbrev pub on_round : Congestion → (heard micros repeats trip : ℕ) → (is_limited : Bool) → Congestion
+on_round c heard micros repeats trip is_limited =
+    if c.is_rated then c
+    else (if is_limited then widened (with_round c heard micros repeats trip) else with_round c heard micros repeats trip)

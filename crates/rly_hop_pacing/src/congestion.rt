@@ -1,86 +1,240 @@
-ghost use Rattle.std.specs.Prelude.{◌≡◌, ◌-◌};
-ghost use Rattle.rly_hop_pacing.specs.Windows.{first_congestion, congestion_after_timeout, congestion_after_custody};
-ghost use Rattle.rly_hop_pacing.specs.Windows.{grown_once, room};
+ghost use Rattle.std.specs.Prelude.{◌≡◌, ◌-◌, ◌≤◌};
+ghost use Rattle.rly_hop_pacing.specs.Windows.{faster, first_congestion, first_span, fitting, is_full, numbers_of};
+ghost use Rattle.rly_hop_pacing.specs.Windows.{on_round, passed_in, shortest, span_with, widened, with_step};
 
-use crate::flight::Flight;
+use crate::round_trip::LONGEST;
+use crate::scoreboard::SLOTS;
 
 /// The initial window, in datagrams (RFC 6928).
-const FIRST_WINDOW: u64 = 10;
+const FIRST_WINDOW: u32 = 10;
 
-/// The congestion window of RFC 5681, in datagrams: how many may be in flight to a hop.
+/// The least window after the first, in datagrams.
+const LEAST_WINDOW: u32 = 4;
+
+/// How many rounds a span has.
+const SPAN: u64 = 8;
+
+/// After this many rounds without a repeat the window grows by one in each.
+const CALM: u64 = 64;
+
+/// How many numbers were heard in a time.
+#[derive(Clone, Copy)]
+pub(crate) struct DeliveryRate {
+    pub(crate) numbers: u16,
+    pub(crate) micros: u32,
+}
+
+/// Several rounds: the greatest rate and the shortest duration among them.
+#[derive(Clone, Copy)]
+pub(crate) struct Span {
+    pub(crate) rate: DeliveryRate,
+    pub(crate) shortest: u32,
+}
+
+/// A round: from one sending until it, or a later one, is heard. A round trip, if nothing is lost.
+#[derive(Clone, Copy)]
+pub(crate) struct Round {
+    /// The last sending before it, by its order.
+    pub(crate) mark: u64,
+    pub(crate) began: u64,
+    /// How many numbers were ever heard before it.
+    pub(crate) news: u64,
+    /// How many numbers were sent again in it.
+    pub(crate) repeats: u64,
+    /// Whether a turn had no room in it.
+    pub(crate) is_limited: bool,
+}
+
+/// How many numbers may be on the way to a hop whose rate isn't known: as many as it takes to keep the greatest rate at
+/// which they are heard (after BBR). With a known rate, the hop's window.
 #[derive(Clone, Copy)]
 pub(crate) struct Congestion {
-    /// The hop's window: the maximum of `allowed`.
-    pub(crate) window: u64,
-    /// How many may be in flight now.
-    pub(crate) allowed: u64,
-    /// The slow-start threshold: below it, each covered number grows the window by one.
-    pub(crate) threshold: u64,
-    /// The numbers covered since the window last grew, above the threshold.
-    pub(crate) counted: u64,
-    /// The greatest number that was sent before the last Timeout.
-    pub(crate) recover: u64,
+    /// The hop's window.
+    pub(crate) window: u32,
+    /// Whether the hop has a rate.
+    pub(crate) is_rated: bool,
+    /// How many numbers may be on the way.
+    pub(crate) allowed: u32,
+    /// Whether the window still doubles.
+    pub(crate) is_starting: bool,
+    pub(crate) span: Span,
+    /// The span before.
+    pub(crate) before: Span,
+    /// How many rounds of this span are over.
+    pub(crate) rounds: u64,
+    /// How many rounds there were since the last with a repeat.
+    pub(crate) calm: u64,
+}
+
+impl DeliveryRate {
+    /// The faster of two.
+    fn faster(self, other: DeliveryRate) -> DeliveryRate
+        ensures { result ≡ faster self other }
+    {
+        let own = u64::from(self.numbers) * u64::from(other.micros);
+        let others = u64::from(other.numbers) * u64::from(self.micros);
+        if own < others { other } else { self }
+    }
+
+    /// How many numbers are heard in this many microseconds at this many sixteenths of the rate, rounded up.
+    fn passed_in(self, micros: u32, sixteenths: u64) -> u64
+        requires { sixteenths ≤ 32 }
+        ensures { result ≡ passed_in self micros sixteenths }
+    {
+        let whole = 16 * u64::from(self.micros.max(1));
+        (u64::from(self.numbers) * u64::from(micros) * sixteenths + (whole - 1)) / whole
+    }
+}
+
+impl Span {
+    /// No round.
+    fn new() -> Span
+        ensures { result ≡ first_span }
+    {
+        Span {
+            rate: DeliveryRate {
+                numbers: 0,
+                micros: 1,
+            },
+            shortest: u32::MAX,
+        }
+    }
+
+    /// One round more.
+    fn with(self, rate: DeliveryRate) -> Span
+        ensures { result ≡ span_with self rate }
+    {
+        Span {
+            rate: self.rate.faster(rate),
+            shortest: self.shortest.min(rate.micros),
+        }
+    }
 }
 
 impl Congestion {
     /// At the start, and when a contact opens.
-    pub(crate) fn begin(window: u64) -> Congestion
-        ensures { result ≡ first_congestion window }
+    pub(crate) fn begin(window: u64, is_rated: bool) -> Congestion
+        ensures { result ≡ first_congestion window is_rated }
     {
+        let window = window.min(SLOTS as u64) as u32;
         Congestion {
             window,
-            allowed: window.min(FIRST_WINDOW),
-            threshold: window,
-            counted: 0,
-            recover: 0,
+            is_rated,
+            allowed: if is_rated {
+                window
+            } else {
+                window.min(FIRST_WINDOW)
+            },
+            is_starting: true,
+            span: Span::new(),
+            before: Span::new(),
+            rounds: 0,
+            calm: 0,
         }
     }
 
-    /// The numbers from `covered + 1` to `last` were covered.
-    pub(crate) fn grow(&mut self, covered: u64, last: u64)
-        ensures { self.new ≡ congestion_after_custody self.old (last - covered) }
+    /// A round ends: `heard` numbers were heard in `micros`, `repeats` were sent again, and the sending by which it ends
+    /// took `trip` until it was heard. `is_limited` tells whether as many numbers were sent in it as may be on the way.
+    pub(crate) fn end_round(
+        &mut self,
+        heard: u64,
+        micros: u64,
+        repeats: u64,
+        trip: u64,
+        is_limited: bool,
+    )
+        ensures { self.new ≡ on_round self.old heard micros repeats trip is_limited }
     {
-        for _number in covered..last {
-            self.grow_once();
-        }
-    }
-
-    /// One number was covered.
-    fn grow_once(&mut self)
-        ensures { self.new ≡ grown_once self.old }
-    {
-        if self.window <= self.allowed {
+        if self.is_rated {
             return;
         }
-        if self.allowed < self.threshold {
-            self.allowed += 1;
-        } else if self.counted < self.allowed.saturating_sub(1) {
-            self.counted += 1;
+        let numbers = self.numbers(heard, repeats, trip);
+        let rate = DeliveryRate {
+            numbers,
+            micros: micros.min(LONGEST).max(1) as u32,
+        };
+        self.span = self.span.with(rate);
+        self.calm = if repeats > 0 {
+            0
         } else {
-            self.allowed += 1;
-            self.counted = 0;
+            self.calm.saturating_add(1)
+        };
+        self.is_starting &= !self.is_full(trip);
+        if is_limited {
+            self.widen();
         }
     }
 
-    /// A Timeout. `flight` is the flight before it.
-    pub(crate) fn collapse(&mut self, flight: Flight)
-        ensures { self.new ≡ congestion_after_timeout self.old flight }
+    /// How many numbers count as heard in a round: those that were, and, unless the link is full, what was sent again,
+    /// up to half as many. So loss that isn't the link's own doesn't lower the rate.
+    fn numbers(&self, heard: u64, repeats: u64, trip: u64) -> u16
+        ensures { result ≡ numbers_of self.now heard repeats trip }
     {
-        self.allowed = 1;
-        self.threshold = (flight.highest.saturating_sub(flight.covered) / 2).max(2);
-        self.counted = 0;
-        self.recover = flight.highest;
+        let more = if self.is_starting || self.is_full(trip) {
+            0
+        } else {
+            repeats.min(heard / 2)
+        };
+        heard.saturating_add(more).min(u64::from(u16::MAX)) as u16
     }
 
-    /// How many more numbers may be sent.
-    pub(crate) fn room(&self, flight: Flight) -> u64
-        ensures { result ≡ room self.now flight }
+    /// The shortest round of this span and the one before.
+    pub(crate) fn shortest(&self) -> u32
+        ensures { result ≡ shortest self.now }
     {
-        let most = if flight.covered < self.recover {
-            1
+        self.span.shortest.min(self.before.shortest)
+    }
+
+    /// Whether a buffer of the link fills: a round trip takes an eighth longer than the shortest round.
+    fn is_full(&self, trip: u64) -> bool
+        ensures { result ≡ is_full self.now trip }
+    {
+        let shortest = u64::from(self.shortest());
+        shortest + shortest / 8 <= trip
+    }
+
+    /// A round of the span is over. After the last one, another span begins, and the window no longer doubles.
+    fn step(&mut self)
+        ensures { self.new ≡ with_step self.old }
+    {
+        if self.rounds < SPAN - 1 {
+            self.rounds += 1;
+            return;
+        }
+        self.rounds = 0;
+        self.is_starting = false;
+        self.before = self.span;
+        self.span = Span::new();
+    }
+
+    /// The window changes after a round in which it was used up.
+    fn widen(&mut self)
+        ensures { self.new ≡ widened self.old }
+    {
+        if !self.is_starting && self.calm >= CALM {
+            self.allowed = self.allowed.saturating_add(1).min(self.window);
+            return;
+        }
+        self.step();
+        self.allowed = self.fitting();
+    }
+
+    /// The window that keeps the greatest rate: while starting twice as much as that rate brings in the shortest round,
+    /// then an eighth more, so that it grows if the link carries more, and in the first round of each span a sixteenth
+    /// less, so that what waits in the link's buffer goes out.
+    fn fitting(&self) -> u32
+        ensures { result ≡ fitting self.now }
+    {
+        let rate = self.span.rate.faster(self.before.rate);
+        let (sixteenths, least) = if self.is_starting {
+            (32, FIRST_WINDOW)
+        } else if self.rounds == 0 {
+            (15, LEAST_WINDOW)
         } else {
-            self.allowed
+            (18, LEAST_WINDOW)
         };
-        most.saturating_sub(flight.reached.saturating_sub(flight.covered))
+        rate.passed_in(self.shortest(), sixteenths)
+            .max(u64::from(least))
+            .min(u64::from(self.window)) as u32
     }
 }

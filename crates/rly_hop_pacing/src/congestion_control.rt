@@ -1,23 +1,41 @@
-ghost use Rattle.std.specs.Prelude.{◌≡◌};
-ghost use Rattle.rly_hop_pacing.specs.CongestionControl.{ControlView, first_control, is_opening, is_timeout};
-ghost use Rattle.rly_hop_pacing.specs.CongestionControl.{on_contact, on_covered, on_sent, on_time, on_window};
-ghost use Rattle.rly_hop_pacing.specs.CongestionControl.{open_room, unsent_count};
+ghost use Rattle.std.specs.Prelude.{◌≡◌, ◌+◌, ◌<◌, ◌&&◌, ◌∷◌, ◌++◌, [], if◌then◌else◌, length, nat_lt, Some, None};
+ghost use Rattle.rly_hop_pacing.specs.CongestionControl.{ControlView, first_control, first_round, is_due_number, is_missing};
+ghost use Rattle.rly_hop_pacing.specs.Flights.{sent_count};
+ghost use Rattle.rly_hop_pacing.specs.CongestionControl.{first_option, is_on_way, is_recovering, is_spare};
+ghost use Rattle.rly_hop_pacing.specs.CongestionControl.{is_opening, is_timeout, is_wide, on_contact, on_covered};
+ghost use Rattle.rly_hop_pacing.specs.CongestionControl.{on_heard, on_report, on_sent, on_time, on_window, open_room};
+ghost use Rattle.rly_hop_pacing.specs.CongestionControl.{probe_number, repeats, spare_number, spare_of, unrated_room};
+ghost use Rattle.rly_hop_pacing.specs.CongestionControl.{unsent_count, way_count, with_round_over};
 
-use crate::congestion::Congestion;
+use crate::congestion::{Congestion, Round};
 use crate::flight::Flight;
+use crate::pacer::Pacer;
+use crate::scoreboard::{SLOTS, Scoreboard};
 use crate::timer::Timer;
+use arrayvec::ArrayVec;
 use std::marker::Model;
 
-/// The congestion control of a hop's core: when it gets a Timeout, and when it gets a turn with its contact open
-/// (`docs/PROTOCOL.md`, "The pace of a hop"). The caller reports the core's actions, the custodies received and the
-/// state of the contact, in order. Times are microseconds of a monotonic clock; if the clock falls, no time has
+/// Numbers to send again, in ascending order.
+pub type Numbers = ArrayVec<u64, SLOTS>;
+
+/// The congestion control of a hop's core: what is sent again, how much may be sent, and when
+/// (`docs/PROTOCOL.md`, "The pace of a hop"). The caller reports the numbers that are sent, the messages received and
+/// the state of the contact, in order. Times are microseconds of a monotonic clock; if the clock falls, no time has
 /// passed.
 #[derive(Drop)]
 pub struct CongestionControl {
     is_open: bool,
     flight: Flight,
+    board: Scoreboard,
     timer: Timer,
     congestion: Congestion,
+    pacer: Pacer,
+    round: Round,
+    covered_at: u64,
+    news_at: Option<u64>,
+    is_due: bool,
+    recover: u64,
+    is_reporting: bool,
 }
 
 impl Model for CongestionControl {
@@ -25,15 +43,27 @@ impl Model for CongestionControl {
 
     ghost Value = { ControlView };
 
-    ghost view = { λ pace.
-        record { is_open = pace.is_open; flight = pace.flight; timer = pace.timer; congestion = pace.congestion } };
+    ghost view = { λ p. record {
+      is_open = p.is_open;
+      flight = p.flight;
+      board = p.board;
+      timer = p.timer;
+      congestion = p.congestion;
+      pacer = p.pacer;
+      round = p.round;
+      covered_at = p.covered_at;
+      news_at = p.news_at;
+      is_due = p.is_due;
+      recover = p.recover;
+      is_reporting = p.is_reporting;
+    } };
 }
 
 impl CongestionControl {
-    /// The congestion control of a hop with this `resend`, in milliseconds, and this window, before a contact is
-    /// open.
-    pub fn new(resend: u32, window: u64) -> CongestionControl
-        ensures { result ≡ first_control resend window }
+    /// The congestion control of a hop with this `resend`, in milliseconds, and this window, before a contact is open.
+    /// `is_rated` tells whether the hop has a rate, by which the caller limits what is sent.
+    pub fn new(resend: u32, window: u64, is_rated: bool) -> CongestionControl
+        ensures { result ≡ first_control resend window is_rated }
     {
         CongestionControl {
             is_open: false,
@@ -42,85 +72,387 @@ impl CongestionControl {
                 reached: 0,
                 highest: 0,
             },
+            board: Scoreboard::new(),
             timer: Timer::new(u64::from(resend) * 1_000),
-            congestion: Congestion::begin(window),
+            congestion: Congestion::begin(window, is_rated),
+            pacer: Pacer::new(),
+            round: Round {
+                mark: 0,
+                began: 0,
+                news: 0,
+                repeats: 0,
+                is_limited: false,
+            },
+            covered_at: 0,
+            news_at: None,
+            is_due: false,
+            recover: 0,
+            is_reporting: false,
         }
     }
 
-    /// Reports whether a contact is open; called first in each turn. Returns true if one has just opened: the
-    /// caller then gives the core a Timeout, so that it sends again from the start of its flight.
+    /// Reports whether a contact is open; called first in each turn. Returns true if one has just opened: the caller
+    /// then gives the core a Timeout, so that it sends again from the start of its flight.
     pub fn contact(&mut self, is_open: bool) -> bool
         ensures state { self.new ≡ on_contact self.old is_open }
         ensures opening { result ≡ is_opening self.old is_open }
     {
-        let was_open = self.is_open;
-        if !is_open {
-            self.is_open = false;
-            self.timer.close(self.flight);
-            return false;
+        let opens = is_open && !self.is_open;
+        self.is_open = is_open;
+        if opens {
+            self.flight.set_back();
+            self.board.begin();
+            self.timer.begin();
+            self.congestion = Congestion::begin(
+                u64::from(self.congestion.window),
+                self.congestion.is_rated,
+            );
+            self.round.mark = self.board.count;
+            self.news_at = None;
+            self.is_due = false;
+            self.recover = 0;
         }
-        if was_open {
-            return false;
-        }
-        self.is_open = true;
-        self.flight.set_back();
-        self.timer.open();
-        self.congestion = Congestion::begin(self.congestion.window);
-        true
+        opens
     }
 
-    /// Whether the core gets a Timeout at this moment. If true, the flight counts as lost.
-    pub fn timeout(&mut self, at: u64) -> bool
-        ensures state { self.new ≡ on_time self.old at }
-        ensures due { result ≡ is_timeout self.old at }
+    /// Reports a custody of the numbers up to `last`, from the hop's station to the own one. One that covers no number
+    /// in flight changes nothing.
+    pub fn on_covered(&mut self, last: u64, at: u64)
+        ensures { self.new ≡ on_covered self.old last at }
     {
-        if !self.is_open || !self.timer.is_due(at) {
-            return false;
+        if self.flight.covers(last) {
+            self.report(last, 0, at);
+            self.flight.cover(last);
+            if self.timer.trip.is_some() {
+                self.timer.begin();
+            }
+            self.covered_at = at;
+            self.news_at = Some(at);
+            self.is_due = self.is_recovering();
         }
-        self.congestion.collapse(self.flight);
-        self.timer.time_out();
-        self.flight.set_back();
-        true
     }
 
-    /// How many more numbers may be sent now: 0 while the contact is closed. If it is not 0, the core may get a
-    /// turn with its contact open, and may fetch or pick that many datagrams to send.
-    pub fn room(&self) -> u64
-        ensures { result ≡ open_room self.now }
+    /// Whether what was sent before a Timeout isn't covered yet, by a station that never sent a Heard: it may have kept
+    /// none of it. So it gets that again one by one, each as the one before is covered, and one new number, which makes a
+    /// station that knows Heards send one. Only a Timeout after news begins this: one before was perhaps too early.
+    fn is_recovering(&self) -> bool
+        ensures { result ≡ is_recovering self.now }
     {
-        if self.is_open {
-            self.congestion.room(self.flight)
-        } else {
+        !self.is_reporting && self.flight.covered < self.recover.min(self.flight.reached)
+    }
+
+    /// Reports a Heard from the hop's station to the own one. One from before the last custody changes nothing.
+    pub fn on_heard(&mut self, last: u64, bits: u64, at: u64)
+        ensures { self.new ≡ on_heard self.old last bits at }
+    {
+        if self.flight.covered <= last && last <= self.flight.highest {
+            self.is_reporting = true;
+            self.report(last, bits, at);
+        }
+    }
+
+    /// The hop's station has the numbers up to `last`, and those after it whose bits are set.
+    fn report(&mut self, last: u64, bits: u64, at: u64)
+        ensures { self.new ≡ on_report self.old last bits at }
+    {
+        let trip = u64::from(self.timer.round_trip());
+        let (news, firsts) = (self.board.news, self.board.firsts);
+        let count = self.flight.in_flight();
+        self.board
+            .hear(self.flight.covered, count, last, bits, at, trip);
+        if news < self.board.news {
+            self.news_at = Some(at);
+        }
+        if firsts < self.board.firsts && self.timer.trip.is_some() {
+            self.timer.begin();
+        }
+        if self.round.mark < self.board.newest {
+            self.end_round(at);
+        }
+    }
+
+    /// A round ends, and another begins.
+    fn end_round(&mut self, at: u64)
+        ensures { self.new ≡ with_round_over self.old at }
+    {
+        if self.board.is_sample {
+            self.timer.sample(self.board.trip);
+        }
+        let sent = self.board.count.saturating_sub(self.round.mark);
+        let is_limited = self.round.is_limited || u64::from(self.congestion.allowed) <= sent;
+        self.congestion.end_round(
+            self.board.news.saturating_sub(self.round.news),
+            at.saturating_sub(self.round.began),
+            self.round.repeats,
+            self.board.trip,
+            is_limited,
+        );
+        self.begin_round(at);
+    }
+
+    fn begin_round(&mut self, at: u64)
+        ensures { self.new ≡ record self.old { round = first_round self.old.board at } }
+    {
+        self.round = Round {
+            mark: self.board.count,
+            began: at,
+            news: self.board.news,
+            repeats: 0,
+            is_limited: false,
+        };
+    }
+
+    /// The turn's time. If the wait has passed since custody last covered more and since the first number in flight was
+    /// last sent, that number goes out again, and what was heard is forgotten.
+    pub fn moment(&mut self, at: u64)
+        ensures { self.new ≡ on_time self.old at }
+    {
+        if self.is_timeout(at) {
+            if self.news_at.is_some() {
+                self.recover = self.flight.reached.saturating_add(1);
+            }
+            self.board.forget();
+            self.timer.time_out();
+            self.begin_round(at);
+            self.news_at = None;
+            self.is_due = true;
+        }
+        self.round.is_limited |= self.is_open && self.room(at) == 0;
+    }
+
+    /// Whether the wait has passed.
+    fn is_timeout(&self, at: u64) -> bool
+        ensures { result ≡ is_timeout self.now at }
+    {
+        let Flight {
+            covered,
+            reached,
+            ..
+        } = self.flight;
+        if !self.is_open || self.is_due || covered >= reached {
+            return false;
+        }
+        let since = self.board.last_sent_at(covered + 1).max(self.covered_at);
+        self.timer.is_past(since, at)
+    }
+
+    /// How many numbers may be sent now, those that are sent again among them: 0 while the contact is closed. With a
+    /// rate, as many as the hop's window has. If it is not 0, the core may get a turn with its contact open, and may
+    /// fetch or pick that many datagrams to send.
+    pub fn room(&self, at: u64) -> u64
+        ensures { result ≡ open_room self.now at }
+    {
+        if !self.is_open {
             0
+        } else if self.is_recovering() {
+            u64::from(self.is_due) + u64::from(self.flight.reached < self.recover)
+        } else if self.congestion.is_rated {
+            u64::from(self.congestion.window)
+        } else {
+            self.unrated_room(at)
         }
     }
 
-    /// How many of the numbers in flight, those below `next`, weren't sent since the core last started again. They
-    /// are sent before any new one.
+    /// How many numbers may be sent to a hop whose rate isn't known. The number that a Timeout sends again is one of
+    /// them, however many are on the way.
+    fn unrated_room(&self, at: u64) -> u64
+        ensures { result ≡ unrated_room self.now at }
+    {
+        let left = u64::from(self.congestion.allowed).saturating_sub(self.way_count(at));
+        let paced = self
+            .pacer
+            .room(self.congestion.allowed, self.congestion.shortest(), at);
+        left.max(u64::from(self.is_due)).min(paced)
+    }
+
+    /// How many numbers in flight were sent since the core was last set back.
+    fn sent_count(&self) -> u64
+        ensures { result ≡ sent_count self.now.flight }
+    {
+        self.flight.sent_count()
+    }
+
+    /// The number at a place among them.
+    fn sent_number(&self, place: u64) -> u64
+        requires { place < sent_count self.now.flight }
+        ensures { result ≡ self.now.flight.covered + 1 + place }
+    {
+        self.flight.sent_number(place)
+    }
+
+    /// How many numbers are on the way.
+    fn way_count(&self, at: u64) -> u64
+        ensures { result ≡ way_count self.now at }
+    {
+        let mut count = 0;
+        for place in 0..self.sent_count() {
+            let number = self.sent_number(place);
+            count = self.with_way(count, number, at);
+        }
+        count
+    }
+
+    /// One more if a number is on the way.
+    fn with_way(&self, count: u64, number: u64, at: u64) -> u64
+        requires { count < 64 }
+        ensures { result ≡ count + (if is_on_way self.now at number then 1 else 0) }
+    {
+        if self.is_on_way(number, at) {
+            count + 1
+        } else {
+            count
+        }
+    }
+
+    /// Whether a number that was sent since the last Timeout is neither heard nor missing.
+    fn is_on_way(&self, number: u64, at: u64) -> bool
+        ensures { result ≡ is_on_way self.now at number }
+    {
+        !self.board.is_heard(number)
+            && !self.is_missing(number, at)
+            && self.board.is_after_timeout(number)
+    }
+
+    /// Whether a number that was sent goes out again: a Timeout asks for it, or it isn't heard, although one that was
+    /// sent later is, and a quarter of the round trip has passed since (RFC 8985). A station that never sent a Heard may
+    /// have it ahead of a gap: it gets it again by Timeouts alone.
+    fn is_missing(&self, number: u64, at: u64) -> bool
+        ensures { result ≡ is_missing self.now at number }
+    {
+        let slack = u64::from(self.timer.round_trip() / 4);
+        self.is_due_number(number)
+            || self.is_reporting
+                && !self.board.is_heard(number)
+                && self.board.is_passed(number, at, slack)
+    }
+
+    /// Whether a Timeout asks for a number.
+    fn is_due_number(&self, number: u64) -> bool
+        ensures { result ≡ is_due_number self.now number }
+    {
+        self.is_due && number.saturating_sub(1) == self.flight.covered
+    }
+
+    /// Lists the numbers that go out again now, at most `most`.
+    pub fn missing(&self, most: u64, at: u64, numbers: &mut Numbers)
+        requires empty { numbers.old.items ≡ [] }
+        ensures { numbers.new.items ≡ repeats self.now most at }
+    {
+        for place in 0..self.sent_count() {
+            let number = self.sent_number(place);
+            self.add_missing(most, number, at, numbers);
+        }
+    }
+
+    /// Adds a number if it goes out again and fewer than `most` are listed.
+    fn add_missing(&self, most: u64, number: u64, at: u64, numbers: &mut Numbers)
+        requires { length numbers.old.items < 64 }
+        ensures { numbers.new.items
+            ≡ (if nat_lt (length numbers.old.items) most && is_missing self.now at number
+            then numbers.old.items ++ number ∷ [] else numbers.old.items) }
+    {
+        if (numbers.len() as u64) < most && self.is_missing(number, at) {
+            numbers.push(number);
+        }
+    }
+
+    /// A number that goes out again if nothing else does: with a rate, one that was sent again before, if the window is
+    /// full; or the last one, if nothing was heard for two round trips (a tail loss probe, RFC 8985).
+    pub fn spare(&self, at: u64) -> Option<u64>
+        ensures { result ≡ spare_number self.now at }
+    {
+        let found = if self.is_wide(at) {
+            self.repeated_before(at)
+        } else {
+            None
+        };
+        found.or(self.probe(at))
+    }
+
+    /// Whether the hop has a rate, its window is full, and something was heard within two round trips.
+    fn is_wide(&self, at: u64) -> bool
+        ensures { result ≡ is_wide self.now at }
+    {
+        let Some(news_at) = self.news_at else {
+            return false;
+        };
+        let passed = at.saturating_sub(news_at);
+        self.congestion.is_rated
+            && u64::from(self.congestion.window) <= self.flight.sent_count()
+            && passed <= 2 * u64::from(self.timer.round_trip())
+    }
+
+    /// The first number that was sent more than once, the last time a quarter of the round trip ago, and isn't heard.
+    fn repeated_before(&self, at: u64) -> Option<u64>
+        ensures { result ≡ spare_of self.now at }
+    {
+        let mut found = None;
+        for place in 0..self.sent_count() {
+            let number = self.sent_number(place);
+            found = self.first_spare(found, number, at);
+        }
+        found
+    }
+
+    /// The first spare number: the one that was found, or else this one, if it is spare.
+    fn first_spare(&self, found: Option<u64>, number: u64, at: u64) -> Option<u64>
+        ensures { result ≡ first_option found (if is_spare self.now at number then Some number else None) }
+    {
+        let wait = u64::from(self.timer.round_trip() / 4);
+        if found.is_none()
+            && !self.board.is_heard(number)
+            && self.board.is_repeated_before(number, at, wait)
+        {
+            Some(number)
+        } else {
+            found
+        }
+    }
+
+    /// The tail loss probe: the number that was sent last, once, if nothing was heard for two round trips, and at least
+    /// for the hop's `resend`.
+    fn probe(&self, at: u64) -> Option<u64>
+        ensures { result ≡ probe_number self.now at }
+    {
+        let news_at = self.news_at?;
+        let number = self.board.last;
+        let since = self.board.last_sent_at(number).max(news_at);
+        let wait = (2 * u64::from(self.timer.round_trip())).max(self.timer.resend);
+        if self.is_open
+            && self.flight.covered < number
+            && number <= self.flight.reached
+            && !self.board.is_heard(number)
+            && !self.board.was_repeated(number)
+            && wait <= at.saturating_sub(since)
+        {
+            Some(number)
+        } else {
+            None
+        }
+    }
+
+    /// How many of the numbers in flight, those below `next`, weren't sent since the core last started again. They are
+    /// sent before any new one.
     pub fn unsent_count(&self, next: u64) -> u64
         ensures { result ≡ unsent_count self.now next }
     {
         next.saturating_sub(self.flight.reached).saturating_sub(1)
     }
 
-    /// Reports that the core sent a number, whether or not the packet left.
+    /// Reports that a number is sent, whether or not the packet leaves.
     pub fn on_sent(&mut self, number: u64, at: u64)
         ensures { self.new ≡ on_sent self.old number at }
     {
-        self.timer.sent(self.flight, number, at);
-        self.flight.sent(number);
-    }
-
-    /// Reports a custody of the numbers up to `last`, from the hop's station to the own one. One that covers no
-    /// number in flight changes nothing.
-    pub fn on_covered(&mut self, last: u64, at: u64)
-        ensures { self.new ≡ on_covered self.old last at }
-    {
-        if self.flight.covers(last) {
-            self.timer.covered(self.flight, last, at);
-            self.congestion.grow(self.flight.covered, last);
-            self.flight.cover(last);
+        if self.flight.reached <= self.flight.covered {
+            self.begin_round(at);
+        } else if number <= self.flight.reached {
+            self.round.repeats = self.round.repeats.saturating_add(1);
         }
+        self.pacer
+            .spend(self.congestion.allowed, self.congestion.shortest(), at);
+        self.is_due &= !self.is_due_number(number);
+        self.board.on_sent(number, at);
+        self.flight.sent(number);
     }
 
     /// Reports the window: the numbers from `first` to `next - 1` are in flight, and are sent from the first on.
@@ -128,12 +460,15 @@ impl CongestionControl {
         ensures { self.new ≡ on_window self.old first next }
     {
         let covered = first.saturating_sub(1);
-        let highest = self.flight.highest.max(next.saturating_sub(1));
         self.flight = Flight {
             covered,
             reached: covered,
-            highest,
+            highest: self.flight.highest.max(next.saturating_sub(1)),
         };
-        self.timer.forget(highest);
+        self.board.begin();
+        self.round.mark = self.board.count;
+        self.news_at = None;
+        self.is_due = false;
+        self.recover = 0;
     }
 }

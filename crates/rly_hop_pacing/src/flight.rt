@@ -1,5 +1,7 @@
-ghost use Rattle.std.specs.Prelude.{◌≡◌};
-ghost use Rattle.rly_hop_pacing.specs.CongestionControl.{covers, flight_on_covered, flight_on_sent, set_back};
+ghost use Rattle.std.specs.Prelude.{◌≡◌, ◌+◌, ◌<◌, ◌^◌};
+ghost use Rattle.rly_hop_pacing.specs.Flights.{covers, flight_on_covered, flight_on_sent, in_flight_count, sent_count, set_back};
+
+use crate::scoreboard::SLOTS;
 
 /// The numbers in flight to a hop.
 #[derive(Clone, Copy)]
@@ -17,7 +19,7 @@ impl Flight {
     pub(crate) fn sent(&mut self, number: u64)
         ensures { self.new ≡ flight_on_sent self.old number }
     {
-        self.reached = number;
+        self.reached = self.reached.max(number);
         self.highest = self.highest.max(number);
     }
 
@@ -41,5 +43,28 @@ impl Flight {
         ensures { result ≡ covers self.now last }
     {
         self.covered < last && last <= self.highest
+    }
+
+    /// How many numbers are in flight, of at most 64.
+    pub(crate) fn in_flight(self) -> u64
+        ensures count { result ≡ in_flight_count self }
+        ensures fits { self.covered + result < 2 ^ 64 }
+    {
+        self.highest.saturating_sub(self.covered).min(SLOTS as u64)
+    }
+
+    /// How many of them were sent since the core was last set back.
+    pub(crate) fn sent_count(&self) -> u64
+        ensures { result ≡ sent_count self.now }
+    {
+        self.reached.saturating_sub(self.covered).min(SLOTS as u64)
+    }
+
+    /// The number at a place among those.
+    pub(crate) fn sent_number(self, place: u64) -> u64
+        requires { place < sent_count self }
+        ensures { result ≡ self.covered + 1 + place }
+    {
+        self.covered + 1 + place
     }
 }

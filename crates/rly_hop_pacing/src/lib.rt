@@ -1,17 +1,22 @@
-//! Congestion control of a hop, without I/O or memory: when its retransmission timer expires, how
-//! many datagrams may be in flight, and how fast it sends. `CongestionControl` is the timer and
-//! the congestion window (`specs/CongestionControl.antt`; RFC 6298, RFC 5681), `Rate` a token
-//! bucket (`specs/Rates.antt`); `docs/PROTOCOL.md` has both as tables. Times are microseconds of a
-//! clock that the caller passes. Caller: the sending workers of `rly_threads_workers`.
+//! Congestion control of a hop, without I/O or memory: what is sent again, when a Timeout comes, how many
+//! datagrams may be on the way, and how fast they go out. `CongestionControl` has a scoreboard of what was
+//! sent and heard (RFC 6675, RFC 8985), a retransmission timer (RFC 6298), and for a hop without a rate a
+//! window and a pacer (after BBR); `Rate` is a token bucket. `docs/PROTOCOL.md`, "The pace of a hop", has the
+//! rules. Times are microseconds of a clock that the caller passes. Caller: the sending workers of
+//! `rly_threads_workers`.
 #![tactic(auto)]
 
 mod congestion;
 mod congestion_control;
 mod flight;
+mod laws;
+mod pacer;
 mod rate;
 mod round_trip;
+mod scoreboard;
 mod timer;
 
-pub use crate::congestion_control::CongestionControl;
+pub use crate::congestion_control::{CongestionControl, Numbers};
+pub use crate::laws::law_opening_ends_no_round;
 pub use crate::rate::{Rate, law_rate_is_kept};
 pub use crate::round_trip::RoundTrip;

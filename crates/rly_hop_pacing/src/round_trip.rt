@@ -3,10 +3,10 @@ ghost use Rattle.rly_hop_pacing.specs.RoundTrips.{deviation, doubled_wait, first
 ghost use Rattle.rly_hop_pacing.specs.RoundTrips.{next_round_trip, plain_wait, after_sample};
 
 /// The longest sample of a round trip, in microseconds: somewhat above 71 minutes. A longer one counts as this.
-const LONGEST: u64 = 4_294_967_295;
+pub(crate) const LONGEST: u64 = 4_294_967_295;
 
 /// The wait before the first sample, in microseconds.
-const FIRST_WAIT: u64 = 1_000_000;
+pub(crate) const FIRST_WAIT: u64 = 1_000_000;
 
 /// The maximum of a doubled wait, in microseconds.
 const LONGEST_DOUBLED: u64 = 60_000_000;
@@ -50,7 +50,8 @@ impl RoundTrip {
     fn wait(self) -> u64
         ensures { result ≡ measured_wait self }
     {
-        u64::from(self.smoothed) + (4 * u64::from(self.variation)).max(1)
+        let smoothed = u64::from(self.smoothed);
+        smoothed + (4 * u64::from(self.variation)).max(smoothed / 2).max(1)
     }
 }
 

@@ -1,13 +1,13 @@
--- Every stored Data was received before, and the next number in order is not covered.
+-- Every stored Data was received before, every refusal was sent, and the next number in order is not covered.
 use Rattle.std.proofs.Common.{◌≡◌, ℕ, ◌-◌, ◌%◌, ◌^◌, ◌<◌, ◌≤◌, Bool, true, false, List, [], ◌∷◌, ◌++◌, refl, sym, subst, arith, length, set}
 use Rattle.std.proofs.Common.{append_assoc, cond, inl, inr, ◌⊎◌, true≢false}
-use Rattle.std.specs.Prelude.{Option, Some, None, All, IfSome, is_some, slice_get, nat_lt, nat_le, ◌==◌, ◌&&◌}
+use Rattle.std.specs.Prelude.{Option, Some, None, All, Contains, IfSome, is_some, slice_get, nat_lt, nat_le, ◌==◌, ◌&&◌}
 use Rattle.std.proofs.lemmas.Bool.{and_parts, eqb-true, ltb-true}
 use Rattle.std.proofs.lemmas.List.{append-nil}
 use Rattle.std.proofs.lemmas.Option.{get_or_from_slice_get, none-some, option_and_then_some, slice_get_within}
 use Rattle.std.proofs.lemmas.List.Elements.{All-get_or, All-set, All-weaker, All-replicate, Contains-append_left, Contains-push}
-use Rattle.rly_link_reorder.specs.ReorderBuffer.{ReorderView, BufferedData, after_data, due_data, next_number, if_for, is_past_gap, is_for, buffered_data, buffered_at, new_reorder, slot_of}
-use Rattle.rly_link_reorder.specs.ReorderRuns.{ReorderEvent, Came, Asked, Covered, HasCome, reorder_after_event, after_events}
+use Rattle.rly_link_reorder.specs.ReorderBuffer.{ReorderView, BufferedData, after_data, after_heard, after_refusal, due_data, next_number, if_for, is_past_gap, is_for, buffered_data, buffered_at, new_reorder, slot_of}
+use Rattle.rly_link_reorder.specs.ReorderRuns.{ReorderEvent, Came, Asked, Covered, Refused, Told, HasCome, reorder_after_event, after_events}
 
 -- a stored Data was received before, and doesn't have the last number
 pub record IsOld (past : List ReorderEvent) (k : BufferedData) : Type 0 where
@@ -17,9 +17,14 @@ pub record IsOld (past : List ReorderEvent) (k : BufferedData) : Type 0 where
 abbrev pub IsOldIf : List ReorderEvent → Option BufferedData → Type 0
 IsOldIf past o = IfSome o (IsOld past)
 
--- this holds of all stored Data, and the next number is above those covered
+-- a refusal in a slot was sent, if there is one
+abbrev pub IsTold : List ReorderEvent → ℕ → Type 0
+IsTold past number = (number ≡ 0) ⊎ Contains past (Refused number)
+
+-- this holds of all stored Data and all refusals, and the next number is above those covered
 pub record IsHistory (past : List ReorderEvent) (e : ReorderView) : Type 0 where
   pub places : All (IsOldIf past) e.places
+  pub refused : All (IsTold past) e.refused
   pub turn : next_number e.covered ≤ e.next
 
 older : (past more : List ReorderEvent) (o : Option BufferedData) → IsOldIf past o → IsOldIf (past ++ more) o
@@ -28,6 +33,13 @@ older past more (Some k) h = record { came = Contains-append_left past more _ h.
 
 all_older : (past more : List ReorderEvent) (places : List (Option BufferedData)) → All (IsOldIf past) places → All (IsOldIf (past ++ more)) places
 all_older past more places h = All-weaker (IsOldIf past) (IsOldIf (past ++ more)) (older past more) places h
+
+told : (past more : List ReorderEvent) (n : ℕ) → IsTold past n → IsTold (past ++ more) n
+told past more n (inl none) = inl none
+told past more n (inr sent) = inr (Contains-append_left past more _ sent)
+
+all_told : (past more : List ReorderEvent) (refused : List ℕ) → All (IsTold past) refused → All (IsTold (past ++ more)) refused
+all_told past more refused h = All-weaker (IsTold past) (IsTold (past ++ more)) (told past more) refused h
 
 -- the next number stays above those covered, if it goes on by one
 turn_goes_on : (c n : ℕ) → next_number c ≤ n → next_number c ≤ next_number n
@@ -63,23 +75,54 @@ history_on_data : (past : List ReorderEvent) (e : ReorderView) (n : ℕ) (packet
 history_on_data past e n packet h = record {
   places = placed (past ++ Came n packet ∷ []) (is_kept e n packet) e.places n packet (is_old_if_kept past e n packet (is_kept e n packet) refl)
       (all_older past (Came n packet ∷ []) e.places h.places);
+  refused = all_told past (Came n packet ∷ []) e.refused h.refused;
   turn = turn_on_data (n == e.next) e.covered e.next n (eqb-true n e.next) h.turn;
 }
 
 history_if_given : (past : List ReorderEvent) (room : ℕ) (is : Bool) (e : ReorderView) → IsHistory past e
     → IsHistory (past ++ Asked room ∷ []) (cond is (record e { next = next_number e.next }) e)
-history_if_given past room true e h = record { places = all_older past (Asked room ∷ []) e.places h.places; turn = turn_goes_on e.covered e.next h.turn }
-history_if_given past room false e h = record { places = all_older past (Asked room ∷ []) e.places h.places; turn = h.turn }
+history_if_given past room true e h = record {
+  places = all_older past (Asked room ∷ []) e.places h.places;
+  refused = all_told past (Asked room ∷ []) e.refused h.refused;
+  turn = turn_goes_on e.covered e.next h.turn;
+}
+history_if_given past room false e h = record {
+  places = all_older past (Asked room ∷ []) e.places h.places;
+  refused = all_told past (Asked room ∷ []) e.refused h.refused;
+  turn = h.turn;
+}
 
 history_if_covered : (past : List ReorderEvent) (last : ℕ) (is : Bool) (e : ReorderView) → IsHistory past e
     → IsHistory (past ++ Covered last ∷ []) (cond is (record e { covered = last; next = next_number last }) e)
-history_if_covered past last true e h = record { places = all_older past (Covered last ∷ []) e.places h.places; turn = omega arith }
-history_if_covered past last false e h = record { places = all_older past (Covered last ∷ []) e.places h.places; turn = h.turn }
+history_if_covered past last true e h = record {
+  places = all_older past (Covered last ∷ []) e.places h.places;
+  refused = all_told past (Covered last ∷ []) e.refused h.refused;
+  turn = omega arith;
+}
+history_if_covered past last false e h = record {
+  places = all_older past (Covered last ∷ []) e.places h.places;
+  refused = all_told past (Covered last ∷ []) e.refused h.refused;
+  turn = h.turn;
+}
+
+history_on_refusal : (past : List ReorderEvent) (n : ℕ) (e : ReorderView) → IsHistory past e → IsHistory (past ++ Refused n ∷ []) (after_refusal e n)
+history_on_refusal past n e h = record {
+  places = all_older past (Refused n ∷ []) e.places h.places;
+  refused = All-set (IsTold (past ++ Refused n ∷ [])) e.refused (n % 64) n (inr (Contains-push past (Refused n)))
+      (all_told past (Refused n ∷ []) e.refused h.refused);
+  turn = h.turn;
+}
+
+history_if_told : (past : List ReorderEvent) (e : ReorderView) → IsHistory past e → IsHistory (past ++ Told ∷ []) (after_heard e)
+history_if_told past e h =
+    record { places = all_older past (Told ∷ []) e.places h.places; refused = all_told past (Told ∷ []) e.refused h.refused; turn = h.turn }
 
 history_on : (past : List ReorderEvent) (e : ReorderView) (event : ReorderEvent) → IsHistory past e → IsHistory (past ++ event ∷ []) (reorder_after_event e event)
 history_on past e (Came n packet) h = history_on_data past e n packet h
 history_on past e (Asked room) h = history_if_given past room (is_some (due_data e room)) e h
 history_on past e (Covered last) h = history_if_covered past last (nat_lt e.covered last) e h
+history_on past e (Refused n) h = history_on_refusal past n e h
+history_on past e Told h = history_if_told past e h
 
 history_after : (past : List ReorderEvent) (e : ReorderView) (events : List ReorderEvent) → IsHistory past e → IsHistory (past ++ events) (after_events e events)
 history_after past e [] h = subst (λ (p : List ReorderEvent). IsHistory p e) (sym (append-nil past)) h
@@ -89,10 +132,14 @@ history_after past e (event ∷ events) h =
 
 pub history : (places longest : ℕ) (events : List ReorderEvent) → IsHistory events (after_events (new_reorder places longest) events)
 history places longest events =
-    history_after [] (new_reorder places longest) events (record { places = All-replicate (IsOldIf []) places None tt; turn = omega arith })
+    history_after [] (new_reorder places longest) events (record {
+      places = All-replicate (IsOldIf []) places None tt;
+      refused = All-replicate (IsTold []) 64 0 (inl refl);
+      turn = omega arith;
+    })
 
 -- the content of a slot is old
-old_at : (past : List ReorderEvent) (places : List (Option BufferedData)) (i : ℕ) (o : Option BufferedData) → All (IsOldIf past) places → slice_get places i ≡ Some o → IsOldIf past o
+pub old_at : (past : List ReorderEvent) (places : List (Option BufferedData)) (i : ℕ) (o : Option BufferedData) → All (IsOldIf past) places → slice_get places i ≡ Some o → IsOldIf past o
 old_at past places i o all e =
     subst (IsOldIf past) (get_or_from_slice_get places i o None e) (All-get_or (IsOldIf past) places i None (slice_get_within places i o e) all)
 

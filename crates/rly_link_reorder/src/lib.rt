@@ -4,7 +4,8 @@
 //! `ReorderBuffer` is the buffer (`specs/ReorderBuffer.antt`); it reserves its memory at the
 //! start. `ReorderedLink` wraps any link and delivers a kept packet again once its turn has come
 //! (`specs/ReorderedLink.antt`), so the worker above sees a late copy (`specs/ReorderRuns.antt`).
-//! It sends only the packets that it is given. Callers: the stations' links.
+//! After a custody it sends a Heard, if Data came ahead of a gap (`law_heard_came`), and beside
+//! that only the packets that it is given. Callers: the stations' links.
 #![tactic(auto)]
 
 mod laws;
@@ -12,6 +13,6 @@ mod reorder_buffer;
 mod reorder_slot;
 mod reordered_link;
 
-pub use crate::laws::law_given_again_came_before;
+pub use crate::laws::{law_given_again_came_before, law_heard_came};
 pub use crate::reorder_buffer::{ReorderBuffer, SLOTS};
 pub use crate::reordered_link::ReorderedLink;

@@ -1,11 +1,15 @@
 //! The reorder buffer of a link.
 
-ghost use Rattle.std.specs.Prelude.{◌≡◌, ◌≤◌, IfOk, IfSome, Some, length, slice_set, take};
+ghost use Rattle.std.specs.Prelude.{◌≡◌, ◌<◌, ◌≤◌, if◌then◌else◌, IfOk, IfSome, None, Some, length, slice_set, take};
 ghost use Rattle.std.specs.Option.{option_map};
-ghost use Rattle.rly_link_reorder.specs.ReorderBuffer.{after_data, after_giving, reorder_after_custody, due_data};
-ghost use Rattle.rly_link_reorder.specs.ReorderBuffer.{next_number, is_past_gap, buffered_data, new_reorder, slot_of};
+ghost use Rattle.rly_hop.specs.HeardBits.{with_mark};
+ghost use Rattle.rly_link_reorder.specs.ReorderBuffer.{after_data, after_giving, after_heard, after_refusal};
+ghost use Rattle.rly_link_reorder.specs.ReorderBuffer.{buffered_data, due_data, heard_bits, is_heard, is_heard_due};
+ghost use Rattle.rly_link_reorder.specs.ReorderBuffer.{is_past_gap, is_stored, new_reorder, next_number};
+ghost use Rattle.rly_link_reorder.specs.ReorderBuffer.{reorder_after_custody, slot_of};
 
 use crate::reorder_slot::ReorderSlot;
+use rly_hop::with_mark;
 use std::alloc::{AllocError, Global};
 use std::marker::Model;
 
@@ -13,7 +17,8 @@ use std::marker::Model;
 pub const SLOTS: usize = 64;
 
 /// The Data of a neighbour that arrived ahead of a gap. Its model: the greatest number that custody was sent for,
-/// the next number in order, the maximum length of a buffered packet, and the slots.
+/// the next number in order, the maximum length of a buffered packet, the slots, of each slot the number that was
+/// refused last, and whether a Data came since custody was last sent.
 #[derive(Drop)]
 pub struct ReorderBuffer {
     covered: u64,
@@ -22,6 +27,10 @@ pub struct ReorderBuffer {
     longest: usize,
     /// The slots: 64, or none. The slot of a number is its remainder modulo 64.
     places: Vec<ReorderSlot>,
+    /// Of each slot the number that was refused last, or 0.
+    refused: [u64; SLOTS],
+    /// Whether a Data came since custody was last sent.
+    came: bool,
 }
 
 impl Model for ReorderBuffer {
@@ -30,8 +39,14 @@ impl Model for ReorderBuffer {
 
     ghost Value = { ReorderView };
 
-    ghost view = { λ e.
-        record { covered = e.covered; next = e.next; longest = e.longest; places = map (λ p. p.held) e.places.items } };
+    ghost view = { λ e. record {
+      covered = e.covered;
+      next = e.next;
+      longest = e.longest;
+      places = map (λ p. p.held) e.places.items;
+      refused = e.refused;
+      came = e.came;
+    } };
 
     ghost invariant = { λ e. All (λ p. e.longest ≤ p.room) e.places.items };
 }
@@ -50,6 +65,8 @@ impl ReorderBuffer {
             next: 1,
             longest,
             places,
+            refused: [0; SLOTS],
+            came: false,
         })
     }
 
@@ -62,6 +79,8 @@ impl ReorderBuffer {
             next: 1,
             longest: 0,
             places: Vec::new(alloc),
+            refused: [0; SLOTS],
+            came: false,
         }
     }
 
@@ -76,6 +95,7 @@ impl ReorderBuffer {
         if number == self.next {
             self.next = next_number(number);
         }
+        self.came = true;
     }
 
     /// Stores a packet in its number's slot, if there is one.
@@ -105,6 +125,84 @@ impl ReorderBuffer {
         let count = place.give(self.next, buffer)?;
         self.next = next_number(self.next);
         Some(count)
+    }
+
+    /// The greatest number that custody was sent for.
+    pub fn covered(&self) -> u64
+        ensures { result ≡ self.now.covered }
+    {
+        self.covered
+    }
+
+    /// A refusal of this number is sent.
+    pub fn refuse(&mut self, number: u64)
+        ensures { self.new ≡ after_refusal self.old number }
+    {
+        self.refused[slot_of(number)] = number;
+    }
+
+    /// The bits of the Heard that is due: one for each of the 64 numbers after those that custody was sent for. `None`
+    /// if no Data came since custody was last sent, or no number is marked.
+    pub fn heard_due(&self) -> Option<u64>
+        ensures { result ≡ (if is_heard_due self.now then Some (heard_bits self.now) else None) }
+    {
+        let bits = self.heard_bits();
+        if self.came && bits > 0 {
+            Some(bits)
+        } else {
+            None
+        }
+    }
+
+    /// The bits of a Heard.
+    fn heard_bits(&self) -> u64
+        ensures { result ≡ heard_bits self.now }
+    {
+        let mut bits = 0;
+        for place in 0..SLOTS as u64 {
+            bits = self.with_place(bits, place);
+        }
+        bits
+    }
+
+    /// The bits with that of a place set, if a Heard marks it.
+    fn with_place(&self, bits: u64, place: u64) -> u64
+        requires { place < 64 }
+        ensures { result ≡ (if is_heard self.now place then with_mark bits place else bits) }
+    {
+        if self.is_heard(place) {
+            with_mark(bits, place)
+        } else {
+            bits
+        }
+    }
+
+    /// Whether a Heard marks a place.
+    fn is_heard(&self, place: u64) -> bool
+        requires { place < 64 }
+        ensures { result ≡ is_heard self.now place }
+    {
+        let Some(number) = self.covered.checked_add(place + 1) else {
+            return false;
+        };
+        self.is_stored(number) || self.refused[slot_of(number)] == number
+    }
+
+    /// Whether a number has its Data in a slot.
+    fn is_stored(&self, number: u64) -> bool
+        ensures { result ≡ is_stored self.now number }
+    {
+        match self.places.get(slot_of(number)) {
+            Some(place) => place.has(number),
+            None => false,
+        }
+    }
+
+    /// A Heard is sent, or none is due.
+    pub fn tell(&mut self)
+        ensures { self.new ≡ after_heard self.old }
+    {
+        self.came = false;
     }
 
     /// Custody of all numbers up to this one is sent. If it is more than before, the number after it becomes the

@@ -1,7 +1,7 @@
 //! One slot of the reorder buffer.
 
-ghost use Rattle.std.specs.Prelude.{◌≡◌, ◌≤◌, IfOk, IfSome, None, Some, length, option_and_then, take};
-ghost use Rattle.std.specs.Option.{option_map};
+ghost use Rattle.std.specs.Prelude.{◌≡◌, ◌≤◌, ◌==◌, false, IfOk, IfSome, None, Some, length, option_and_then, take};
+ghost use Rattle.std.specs.Option.{option_map, option_map_or};
 ghost use Rattle.rly_link_reorder.specs.ReorderBuffer.{if_for, is_for, buffered_data};
 
 use std::alloc::{AllocError, Global};
@@ -48,6 +48,13 @@ impl ReorderSlot {
         self.number = Some(number);
         self.bytes.clear();
         self.bytes.extend_from_slice(packet).unwrap();
+    }
+
+    /// Whether the Data of this number is stored here.
+    pub(crate) fn has(&self, number: u64) -> bool
+        ensures { result ≡ option_map_or (λ k. k.number == number) self.now.held false }
+    {
+        self.number == Some(number)
     }
 
     /// Copies the packet stored under this number to the front of a buffer, if it fits, and returns its length in

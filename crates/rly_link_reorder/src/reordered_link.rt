@@ -1,22 +1,24 @@
 //! A link with a reorder buffer.
 
-ghost use Rattle.std.specs.Prelude.{◌≡◌, ◌≤◌, ◌++◌, ◌∷◌, [], IfNone, IfOk, IfSome, OnErr, OnOk, Some, false, length};
-ghost use Rattle.std.specs.Prelude.{true};
+ghost use Rattle.std.specs.Prelude.{◌≡◌, ◌⊎◌, ◌≤◌, ◌++◌, ◌∷◌, [], if◌then◌else◌, IfNone, IfOk, IfSome, None, OnErr};
+ghost use Rattle.std.specs.Prelude.{OnOk, Some, false, length, true};
 ghost use Rattle.std.specs.Option.{option_map};
 ghost use Rattle.rly_link_reorder.specs.ReorderedLink.{after_hearing, after_receive, after_sending, given_again};
-ghost use Rattle.rly_link_reorder.specs.ReorderedLink.{new_reordered};
-ghost use Rattle.rly_link_reorder.specs.ReorderBuffer.{after_giving, due_data};
+ghost use Rattle.rly_link_reorder.specs.ReorderedLink.{heards_after, new_reordered};
+ghost use Rattle.rly_link_reorder.specs.ReorderBuffer.{after_giving, due_data, heard_bits, is_heard_due};
+ghost use Rattle.rly_hop.specs.FixedBytes.{heard_packet};
 ghost use Rattle.rly_link.specs.LinkHistory.{FailuresRose, TellsMore, new_hearing, packet_in, packet_of};
 ghost use Rattle.rly_link.specs.Memory.{heard_of};
 
 use crate::reorder_buffer::ReorderBuffer;
 use http_server::Log;
-use rly_hop::{StationId, custody_number, data_number};
+use rly_hop::{HEARD_LENGTH, StationId, custody_number, data_number, heard_packet, refused_number};
 use rly_link::{Link, LinkFault, PacketLog, bytes_in};
 use std::marker::Model;
 
-/// A link with a peer over another link, which delivers early Data again when their turn comes. Its model: the link
-/// below, both stations, the reorder buffer, and the packets delivered.
+/// A link with a peer over another link, which delivers early Data again when their turn comes, and sends a Heard after
+/// a custody if Data came ahead of a gap. Its model: the link below, both stations, the reorder buffer, the packets
+/// delivered, and the packets passed to it to be sent.
 #[derive(Drop)]
 pub struct ReorderedLink<L: Link> {
     link: L,
@@ -24,16 +26,23 @@ pub struct ReorderedLink<L: Link> {
     peer: StationId,
     early: ReorderBuffer,
     given: Log<bool, Option<PacketLog>>,
+    passed: Log<PacketLog, ()>,
 }
 
 impl<L: Link> Model for ReorderedLink<L> {
     ghost use Rattle.rly_link_reorder.specs.ReorderedLink.{ReorderedView};
-    ghost use Rattle.rly_link.specs.Memory.{heard_of};
+    ghost use Rattle.rly_link.specs.Memory.{heard_of, sent_of};
 
     ghost Value = { ReorderedView L };
 
-    ghost view = { λ a.
-        record { link = a.link; own = a.own; peer = a.peer; early = a.early; given = heard_of a.given } };
+    ghost view = { λ a. record {
+      link = a.link;
+      own = a.own;
+      peer = a.peer;
+      early = a.early;
+      given = heard_of a.given;
+      passed = sent_of a.passed;
+    } };
 }
 
 impl<L: Link> ReorderedLink<L> {
@@ -47,6 +56,7 @@ impl<L: Link> ReorderedLink<L> {
             peer,
             early,
             given: Log::new(),
+            passed: Log::new(),
         }
     }
 
@@ -106,6 +116,15 @@ impl<L: Link> ReorderedLink<L> {
         self.tell(waited, found, buffer);
     }
 
+    /// The Heard that is due, if one is.
+    fn heard_due(&self) -> Option<[u8; HEARD_LENGTH]>
+        ensures { result ≡ (if is_heard_due self.now.early
+            then heard_packet self.now.own self.now.peer self.now.early.covered (heard_bits self.now.early) else None) }
+    {
+        let bits = self.early.heard_due()?;
+        heard_packet(self.own, self.peer, self.early.covered(), bits)
+    }
+
     /// Stores a packet, if it is an early Data of the peer.
     fn keep(&mut self, packet: &[u8])
         ensures { self.new
@@ -122,14 +141,15 @@ impl<L: Link> Link for ReorderedLink<L> {
 
     ghost heard = { reordered_heard };
 
-    ghost sent = { reordered_sent L.sent };
+    ghost sent = { reordered_sent };
 
     ghost failed = { reordered_failures L.failed };
 
     fn recv(&mut self, buffer: &mut [u8]) -> Result<Option<usize>, LinkFault>
         ensures bound { IfOk result (λ found. IfSome found (λ count. count ≤ length buffer.new)) }
         ensures heard { self.new.given ≡ self.old.given ++ new_hearing true (packet_of result buffer.new) ∷ [] }
-        ensures sent { L.sent self.new.link ≡ L.sent self.old.link }
+        ensures sent { self.new.passed ≡ self.old.passed }
+        ensures silent { L.sent self.new.link ≡ L.sent self.old.link }
         ensures rise { OnErr result (FailuresRose (L.failed self.old.link) (L.failed self.new.link)) }
         ensures no_failure { OnOk result (L.failed self.new.link ≡ L.failed self.old.link) }
         // A stored packet that is due is delivered without a receive below. Otherwise the link below is asked once.
@@ -151,7 +171,8 @@ impl<L: Link> Link for ReorderedLink<L> {
     fn try_recv(&mut self, buffer: &mut [u8]) -> Result<Option<usize>, LinkFault>
         ensures bound { IfOk result (λ found. IfSome found (λ count. count ≤ length buffer.new)) }
         ensures heard { self.new.given ≡ self.old.given ++ new_hearing false (packet_of result buffer.new) ∷ [] }
-        ensures sent { L.sent self.new.link ≡ L.sent self.old.link }
+        ensures sent { self.new.passed ≡ self.old.passed }
+        ensures silent { L.sent self.new.link ≡ L.sent self.old.link }
         ensures rise { OnErr result (FailuresRose (L.failed self.old.link) (L.failed self.new.link)) }
         ensures no_failure { OnOk result (L.failed self.new.link ≡ L.failed self.old.link) }
         ensures again { IfSome (due_data self.old.early (length buffer.old))
@@ -170,17 +191,34 @@ impl<L: Link> Link for ReorderedLink<L> {
     }
 
     fn send(&mut self, packet: &[u8]) -> Result<(), LinkFault>
-        ensures sent { TellsMore (L.sent self.old.link) (L.sent self.new.link) (packet.now ∷ []) }
+        ensures sent { self.new.passed ≡ self.old.passed ++ packet.now ∷ [] }
         ensures heard { self.new.given ≡ self.old.given }
         ensures rise { OnErr result (FailuresRose (L.failed self.old.link) (L.failed self.new.link)) }
         ensures no_failure { OnOk result (L.failed self.new.link ≡ L.failed self.old.link) }
         ensures below { L.heard self.new.link ≡ L.heard self.old.link }
+        // After a custody that went out it sends the Heard that is due, and nothing else of its own.
+        ensures passes { OnOk result
+            (TellsMore (L.sent self.old.link) (L.sent self.new.link) (packet.now ∷ heards_after self.old packet.now)) }
+        ensures fails { OnErr result (TellsMore (L.sent self.old.link) (L.sent self.new.link) (packet.now ∷ [])
+            ⊎ TellsMore (L.sent self.old.link) (L.sent self.new.link)
+            (packet.now ∷ heards_after self.old packet.now)) }
         ensures after { self.new.early ≡ after_sending self.old packet.now }
     {
-        if let Some(last) = custody_number(packet, self.own, self.peer) {
-            self.early.cover(last);
+        self.passed = self.passed.and(&bytes_in(packet), &());
+        let Some(last) = custody_number(packet, self.own, self.peer) else {
+            if let Some(number) = refused_number(packet, self.own, self.peer) {
+                self.early.refuse(number);
+            }
+            return self.link.send(packet);
+        };
+        self.early.cover(last);
+        let heard = self.heard_due();
+        self.early.tell();
+        self.link.send(packet)?;
+        match heard {
+            Some(heard) => self.link.send(&heard),
+            None => Ok(()),
         }
-        self.link.send(packet)
     }
 
     fn failures(&self) -> u64 {

@@ -97,7 +97,7 @@ place_send =
 early_send : IsSend Early.the_row
 early_send =
     let inside : Declared = EarlyInside.the_type in
-    let fields : AllSend (rows inside.parts) = (search sendable depth 20, (search sendable depth 20, (search sendable depth 20, (search (sendable, crosses, place_send) depth 40, tt)))) in
+    let fields : AllSend (rows inside.parts) = (search sendable depth 20, (search sendable depth 20, (search sendable depth 20, (search (sendable, crosses, place_send) depth 40, (search (sendable, crosses) depth 40, (search sendable depth 20, tt)))))) in
     view_send EarlyInside.the_row _ _ _ _ (recorded_send (Struct (shape inside)) inside.D inside.to inside.to_one (struct_send (shape inside) fields))
 
 ahead_send : (L : RattleType) (g : Link.Ghosts L.Denot) → IsSend L → IsSend (Ahead.the_row L g)
@@ -109,7 +109,7 @@ ahead_send L g l =
         search (sendable, crosses) depth 20,
         (
           search (sendable, crosses) depth 20,
-          (early_send, (search (sendable, the_send) depth 20, tt)),
+          (early_send, (search (sendable, the_send) depth 20, (search (sendable, the_send) depth 20, tt))),
         ),
       ),
     ) in
@@ -122,5 +122,5 @@ neighbour_send C g c =
     let told = Impl.ghosts C g Impl.no_dict Impl.no_dict in
     let station = station_send socket told (udp_send C c) in
     let ahead = ahead_send (Station.the_row socket told) (StationImpl.ghosts socket told StationImpl.no_dict) station in
-    let fields : AllSend (rows link.parts) = (ahead, (tags_send, tt)) in
+    let fields : AllSend (rows link.parts) = (ahead, (tags_send, (search sendable depth 20, tt))) in
     recorded_send (Struct (shape link)) link.D link.to link.to_one (struct_send (shape link) fields)

@@ -1,9 +1,10 @@
 //! UDP links, wake-ups and clocks of a plan's workers: the only crate that opens sockets.
 //!
 //! `posts_of` opens a link for every worker of a plan (`specs/Duties.antt`): a socket, with
-//! authentication if the plan names a key, and a reorder buffer for peers. A link counts and logs
-//! failed sends and wrong tags. A `WallClock` reads the system's clocks and ends a worker after
-//! its turns (`specs/WallClock.antt`); `Wakeups` wake the senders. Callers: `rly_daemon_serve` and
+//! authentication if the plan names a key, and a reorder buffer for peers. It logs the first link
+//! whose receive buffer is too small. A link counts and logs failed sends and wrong tags. A
+//! `WallClock` reads the system's clocks and ends a worker after its turns
+//! (`specs/WallClock.antt`); `Wakeups` wake the senders. Callers: `rly_daemon_serve` and
 //! `rly_daemon`.
 #![tactic(auto)]
 
@@ -11,6 +12,7 @@ mod clock_watch;
 mod link_reorder;
 mod neighbour_link;
 mod posts;
+mod receive_buffer;
 mod sender_waker;
 mod signals;
 mod udp_link;

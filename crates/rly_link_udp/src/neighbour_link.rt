@@ -20,25 +20,38 @@ use std::time::Clock;
 pub struct NeighbourLink<C: Clock + Drop> {
     link: ReorderedLink<StationLink<UdpLink<C>>>,
     wrong_tags: WrongTags,
+    /// The bytes of its receive buffer, if one was requested and the system says how many.
+    buffer: Option<u32>,
 }
 
 impl<C: Clock + Drop> NeighbourLink<C> {
-    /// The link of a worker over a socket, sealed with a key if there is one.
+    /// The link of a worker over a socket, sealed with a key if there is one. The size of its receive buffer is in
+    /// bytes, if it is known.
     pub(crate) fn new(
         socket: UdpLink<C>,
         key: Option<Key>,
         worker: Worker,
         teller: Logger,
         keeping: LinkReorder,
+        buffer: Option<u32>,
     ) -> NeighbourLink<C>
         ensures link { result.link ≡ new_reordered (station_link socket key) keeping.own keeping.peer keeping.early }
         ensures worker { result.wrong_tags.worker ≡ worker }
+        ensures buffer { result.buffer ≡ buffer }
     {
         let LinkReorder { own, peer, early } = keeping;
         NeighbourLink {
             link: ReorderedLink::new(StationLink::new(socket, key), own, peer, early),
             wrong_tags: WrongTags::new(worker, teller),
+            buffer,
         }
+    }
+
+    /// The bytes of its receive buffer, if they are known.
+    pub(crate) fn receive_buffer(&self) -> Option<u32>
+        ensures { result ≡ self.now.buffer }
+    {
+        self.buffer
     }
 
     /// Whether it is unauthenticated.

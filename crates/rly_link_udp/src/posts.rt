@@ -1,11 +1,12 @@
 //! The posts of a plan's workers: each with its UDP link, its clock and its waker.
 
 ghost use Rattle.std.specs.Option.{option_map};
-ghost use Rattle.std.specs.Prelude.{◌≡◌, IfOk, None, Some, is_some, map, option_and_then, option_copied};
+ghost use Rattle.std.specs.Prelude.{◌≡◌, ◌++◌, IfOk, None, Some, is_some, map, option_and_then, option_copied};
 ghost use Rattle.rly_plan.specs.Sound.{IsSoundPlan};
 ghost use Rattle.rly_link_udp.specs.Duties.{addresses_of, duties, duty_at, duty_of, is_first};
 ghost use Rattle.rly_link_udp.specs.WallClock.{turns_left};
-ghost use Rattle.rly_station.specs.Warnings.{known_of, none_yet};
+ghost use Rattle.rly_station.specs.ReceiveBuffers.{buffer_warnings, wanted_buffer};
+ghost use Rattle.rly_station.specs.Warnings.{known_of, logged_warnings, none_yet};
 
 use crate::clock_watch::ClockWatch;
 use crate::link_reorder::LinkReorder;
@@ -19,8 +20,8 @@ use rly_core::HopId;
 use rly_link::{Post, Worker};
 use rly_plan::{Addresses, Plan};
 use rly_station::{
-    AddressFault, End, EndFault, ErrorLines, FailedCalls, KeyedWorker, PlanKeys, ServeFault,
-    SystemCall,
+    AddressFault, End, EndFault, ErrorLines, FailedCalls, KeyedWorker, Logger, PlanKeys,
+    ServeFault, SystemCall, buffer_warning, wanted_buffer,
 };
 use std::alloc::{AllocError, Global};
 use std::net::Net;
@@ -44,7 +45,10 @@ pub fn posts_of<'a, H: AllocGlobal + Net + Clock>(
     ensures { IfOk result (λ posts. map duty_at posts.items ≡ duties plan.now keys.entry longest turns) }
 {
     let signals = Signals::open(rt, rt.alloc(), plan, lines)?;
-    shared_posts(rt, plan, keys, longest, turns, &signals)
+    let posts = shared_posts(rt, plan, keys, longest, turns, &signals)?;
+    let mut teller = signals.logger()?;
+    warn_of_buffers(posts.as_slice(), longest, &mut teller);
+    Ok(posts)
 }
 
 /// The same, for workers that share these signals.
@@ -88,9 +92,10 @@ fn post_of<'a, H: AllocGlobal + Net + Clock>(
     let turn = turn_of(rt, worker, turns, signals)?;
     let teller = signals.logger()?;
     let socket = socket_of(rt, rt.alloc(), worker, addresses, signals)?;
+    let buffer = buffer_of(worker, &socket, longest);
     let keeping = LinkReorder::new(rt.alloc(), plan, worker, longest)?;
     let key = key.map(|key| key.into_key());
-    let link = NeighbourLink::new(socket, key, worker, teller, keeping);
+    let link = NeighbourLink::new(socket, key, worker, teller, keeping, buffer);
     let waker = SenderWaker::new(signals.wakeups()?);
     Ok(Post {
         worker,
@@ -120,6 +125,30 @@ fn socket_of<'a, H: Net + Clock>(
             Ok(socket.with_wakeup(wakeup).with_failed_sends(failed_sends))
         }
         Err(fault) => Err(fault_of_link(alloc, worker, addresses, fault)),
+    }
+}
+
+/// Requests a receive buffer for a peer's socket, and returns its bytes, if the system says how many. No packet is read
+/// while a round is on the device. A hop sends short packets, so its link requests none.
+fn buffer_of<C: Clock + Drop>(worker: Worker, socket: &UdpLink<C>, longest: usize) -> Option<u32> {
+    match worker {
+        Worker::Receiver(_) => socket.grow_buffer(wanted_buffer(longest)),
+        Worker::Sender(_) => None,
+    }
+}
+
+/// Logs the first of these links whose receive buffer is smaller than it wants. All want the same, and the system has
+/// one limit.
+fn warn_of_buffers<H: Clock>(posts: &[UdpPost<'_, H>], longest: usize, teller: &mut Logger)
+    ensures { logged_warnings teller.new ≡ logged_warnings teller.old
+        ++ buffer_warnings (wanted_buffer longest) (map (λ post. post.link.buffer) posts.now) }
+{
+    let wanted = wanted_buffer(longest);
+    for post in posts {
+        if let Some(warning) = buffer_warning(wanted, post.link.receive_buffer()) {
+            teller.log(warning);
+            return;
+        }
     }
 }
 

@@ -1,6 +1,7 @@
 ghost use Rattle.std.specs.Prelude.{◌≡◌, ◌≤◌, ◌-◌, ◌^◌, ◌↔◌, IfOk, IfSome, IsErr, IsTrue, Some, length};
 ghost use Rattle.rly_link.specs.LinkHistory.{FailuresRose};
 
+use crate::receive_buffer::grow_buffer;
 use crate::wakeups::Wakeups;
 use rly_core::HopId;
 use rly_link::{Link, LinkFault};
@@ -78,6 +79,12 @@ impl<C: Clock + Drop> UdpLink<C> {
     {
         self.wakeup = wakeup;
         self
+    }
+
+    /// Requests a receive buffer of `wanted` bytes, if it is smaller. Returns its bytes then, if the system says how
+    /// many: fewer if the system has a limit.
+    pub fn grow_buffer(&self, wanted: u32) -> Option<u32> {
+        grow_buffer(&self.socket, wanted)
     }
 
     /// The same, with a log of failed sends.

@@ -1,5 +1,5 @@
--- The warnings of a serving station: failed sends and reads, packets with a wrong tag, and a clock that is set
--- (docs/COMMANDS.md, "rly serve").
+-- The warnings of a serving station: failed sends and reads, packets with a wrong tag, a clock that is set, and a
+-- receive buffer that is too small (docs/COMMANDS.md, "rly serve").
 use Rattle.std.specs.Prelude.{◌≡◌, ℕ, ◌+◌, ◌-◌, ◌%◌, ◌/◌, ◌^◌, ◌==◌, min, ℤ, unsigned_abs}
 use Rattle.std.specs.Prelude.{if◌then◌else◌, codes, replicate, slice_index_or}
 use Rattle.std.specs.Prelude.{Bool, true, false, not, ◌||◌, List, [], ◌∷◌, ◌++◌, map, set, Option, Some, None}
@@ -14,7 +14,7 @@ use Rattle.rly_station.specs.declared.warning.SystemCall.TheVariants.{Read, Send
 use Rattle.rly_station.specs.declared.warning.ClockStep.{ClockStep}
 use Rattle.rly_station.specs.declared.warning.ClockStep.TheVariants.{Forward, Back}
 use Rattle.rly_station.specs.declared.warning.Warning.{Warning}
-use Rattle.rly_station.specs.declared.warning.Warning.TheVariants.{ClockSet, FailedCall, WrongTag}
+use Rattle.rly_station.specs.declared.warning.Warning.TheVariants.{ClockSet, FailedCall, SmallBuffer, WrongTag}
 use Rattle.rly_link.specs.declared.turn.Worker.{Worker}
 use Rattle.rly_link.specs.declared.turn.Worker.TheVariants as worker
 
@@ -39,6 +39,9 @@ warning_text (FailedCall call count word) = None
 warning_text (WrongTag w count) =
     Some (codes "rly: " ++ name_text w ++ codes ": wrong tag (" ++ decimal count ++ codes " so far)")
 warning_text (ClockSet step) = Some (codes "rly: " ++ step_text step)
+warning_text (SmallBuffer wanted granted) =
+    Some (codes "rly: receive buffer of "
+    ++ (decimal granted ++ (codes " bytes: set net.core.rmem_max to " ++ decimal wanted)))
 
 -- the warnings logged, in order
 abbrev pub logged_warnings : Logger → List Warning

@@ -3,8 +3,9 @@
 //! `read_plan` and `read_keys` read the plan and the keys of its links (`specs/Keys.antt`).
 //! `ServeFault` and `FileFault` say why a station can't serve (`specs/Faults.antt`). `FailedCalls`
 //! counts failed sends and reads and logs the first of each kind and every thousandth
-//! (`specs/Warnings.antt`). Callers: `rly_link_udp`, `rly_daemon_commands`, `rly_daemon_serve` and
-//! `rly_daemon`.
+//! (`specs/Warnings.antt`); `buffer_warning` decides which receive buffer is too small
+//! (`specs/ReceiveBuffers.antt`). Callers: `rly_link_udp`, `rly_daemon_commands`,
+//! `rly_daemon_serve` and `rly_daemon`.
 #![tactic(auto)]
 
 mod address_fault;
@@ -16,6 +17,7 @@ mod logger;
 mod moment;
 mod plan_file;
 mod plan_keys;
+mod receive_buffer;
 mod serve_fault;
 mod warning;
 mod worker_name;
@@ -30,6 +32,7 @@ pub use crate::logger::Logger;
 pub use crate::moment::moment_of;
 pub use crate::plan_file::read_plan;
 pub use crate::plan_keys::{KeyedWorker, NamedKey, PlanKeys, key_in, read_keys};
+pub use crate::receive_buffer::{buffer_warning, wanted_buffer};
 pub use crate::serve_fault::ServeFault;
 pub use crate::warning::{ClockStep, SystemCall, Warning};
 pub use crate::worker_name::WorkerName;

@@ -66,6 +66,11 @@ pub enum Warning {
     },
     /// The wall clock was set.
     ClockSet(ClockStep),
+    /// A link's receive buffer is smaller than it wants, in bytes: the system has a limit.
+    SmallBuffer {
+        wanted: u32,
+        granted: u32,
+    },
 }
 
 impl Display for Warning {
@@ -84,6 +89,10 @@ impl Display for Warning {
                 WorkerName(*worker)
             ),
             Warning::ClockSet(step) => write!(f, "rly: {step}"),
+            Warning::SmallBuffer { wanted, granted } => write!(
+                f,
+                "rly: receive buffer of {granted} bytes: set net.core.rmem_max to {wanted}"
+            ),
         }
     }
 }

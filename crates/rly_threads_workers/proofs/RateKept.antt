@@ -10,14 +10,16 @@ use Rattle.rly_hop.specs.declared.sending.event.OutEvent.TheVariants.{Turn}
 use Rattle.rly_hop.specs.Sender.{Sender}
 use Rattle.rly_hop.specs.Sending.{sending_step}
 use Rattle.rly_hop.specs.Spelling.{longest_message}
-use Rattle.rly_hop_pacing.specs.CongestionControl.{is_opening, is_timeout, on_contact, on_time}
+use Rattle.rly_hop.specs.declared.message.Message.{Message}
+use Rattle.rly_link.specs.LinkHistory.{message_in}
+use Rattle.rly_hop_pacing.specs.CongestionControl.{is_opening, on_contact, repeats}
 use Rattle.rly_hop_pacing.specs.declared.rate.Bucket.{Bucket}
 use Rattle.rly_hop_pacing.specs.Rates.{burst, cost, first_bucket, may_take, on_take}
 use Rattle.rly_hop_pacing.proofs.RateLaws.{later_mark, paid as pays, same_rate}
 use Rattle.rly_plan.specs.ContactPlan.{is_open}
 use Rattle.rly_threads_workers.specs.declared.sender_state.SenderState.{SenderState}
-use Rattle.rly_threads_workers.specs.SenderTurns.{SenderWorker, call_count, calls_from, after_out_event, sender_events, sender_on_action, sender_on_calls, sender_on_packet, sender_packets, sender_sent, sender_turn, sent_on}
-use Rattle.rly_threads_workers.specs.SenderState.{first_sender_state, let_out, on_moment, rate_after, send_room, set_back_if, with_contact, with_custody}
+use Rattle.rly_threads_workers.specs.SenderTurns.{SenderWorker, again_numbers, calls_from, core_count, or_pick, repeat_count, after_out_event, sender_events, sender_on_calls, sender_on_packet, sender_packets, sender_sent, sender_turn, sent_on}
+use Rattle.rly_threads_workers.specs.SenderState.{action_on, first_sender_state, let_out, on_moment, rate_after, send_room, sender_on_hearing, set_back_if}
 use Rattle.rly_threads_workers.specs.RateKept.{earliest, latest, total_cost}
 use Rattle.rly_threads_workers.specs.Turns.{Given, Made, done_in}
 
@@ -164,7 +166,7 @@ rated_both lo hi b mid after first second x y = record {
 told_rated : (lo hi : ℕ) (in_contact : Bool) (at : ℕ) (p : SenderState) (b : Bucket) (e : OutEvent (List ℕ)) → p.rate ≡ Some b → lo ≤ at → at ≤ hi
     → Rated lo hi b (after_out_event in_contact at p e).rate (sent_on in_contact at p e)
 told_rated lo hi in_contact at p b e has low high =
-    let packets = sender_packets in_contact (sending_step p.core e).1 in
+    let packets = sender_packets in_contact (action_on p.core e) in
     subst (λ (r : Option Bucket). Rated lo hi b (rate_after r packets at) (let_out r packets at)) (sym has) (let_out_rated lo hi b packets at low high)
 
 events_rated : (lo hi : ℕ) (in_contact : Bool) (at : ℕ) (p : SenderState) (b : Bucket) (events : List (OutEvent (List ℕ))) → p.rate ≡ Some b → lo ≤ at → at ≤ hi
@@ -183,35 +185,37 @@ calls_rated lo hi w now made p b [] has low high = record { bucket = b; is = has
 calls_rated lo hi w now made p b (first ∷ others) has low high =
     events_rated lo hi (is_open w.plan w.hop made.after.now) made.after.since p b (sender_events (first ∷ others) made.outcome) has low high
 
-action_rated : (lo hi : ℕ) (w : SenderWorker) (most room now : ℕ) (made : Made) (p : SenderState) (b : Bucket) (named : Option (OutAction (List ℕ))) → p.rate ≡ Some b
-    → lo ≤ made.after.since → made.after.since ≤ hi
-    → Rated lo hi b (sender_on_action w most room now made p named).core.rate (sender_on_action w most room now made p named).sent
-action_rated lo hi w most room now made p b None has low high = record { bucket = b; is = has; spends = spends_none lo hi b }
-action_rated lo hi w most room now made p b (Some named) has low high =
-    calls_rated lo hi w now made p b (calls_from named (call_count most room p named)) has low high
-
 set_back_rate : (due : Bool) (p : SenderState) → (set_back_if due p).rate ≡ p.rate
 set_back_rate true p = refl
 set_back_rate false p = refl
 
 moment_rate : (p : SenderState) (in_contact : Bool) (at : ℕ) → (on_moment p in_contact at).rate ≡ p.rate
-moment_rate p in_contact at =
-    let opened = with_contact p in_contact in
-    let told = with_custody opened at in
-    set_back_rate (is_timeout told.pace at) (record told { pace = on_time told.pace at })
-    ∙ set_back_rate (is_opening p.pace in_contact) (record p { pace = on_contact p.pace in_contact })
+moment_rate p in_contact at = set_back_rate (is_opening p.pace in_contact) (record p { pace = on_contact p.pace in_contact })
+
+hearing_rate : (p : SenderState) (m : Option (Message (List ℕ))) → (sender_on_hearing p m).rate ≡ p.rate
+hearing_rate p None = refl
+hearing_rate p (Some m) = refl
+
+heard_rate : (p : SenderState) (packets : List (List ℕ)) → (fold sender_on_packet p packets).rate ≡ p.rate
+heard_rate p [] = refl
+heard_rate p (packet ∷ packets) = heard_rate (sender_on_packet p packet) packets ∙ hearing_rate p (message_in (Some packet))
 
 turn_rated : (lo hi : ℕ) (w : SenderWorker) (most : ℕ) (p : SenderState) (b : Bucket) (given : Given) → p.rate ≡ Some b
     → lo ≤ given.made.after.since → given.made.after.since ≤ hi
     → Rated lo hi b (sender_turn w most p given).core.rate (sender_turn w most p given).sent
 turn_rated lo hi w most p b given has low high =
-    let heard : SenderState = record p { core = fold sender_on_packet p.core (take 64 given.packets) } in
+    let packets = take 64 given.packets in
+    let heard = fold sender_on_packet p packets in
     let in_contact = is_open w.plan w.hop given.heard.now in
-    let ready = on_moment heard in_contact given.heard.since in
-    let room = send_room ready given.heard.since in
-    let left = sending_step ready.core (Turn (nat_lt 0 room)) in
-    action_rated lo hi w most room given.heard.now given.made (record ready { core = left.0; moved = false }) b left.1
-    (moment_rate heard in_contact given.heard.since ∙ has) low high
+    let at = given.heard.since in
+    let ready = on_moment heard in_contact at in
+    let room = send_room ready at in
+    let again = again_numbers ready.pace room at (repeats ready.pace (repeat_count most room) at) in
+    let left = sending_step ready.core (Turn (nat_lt (length again) room)) in
+    let acting : SenderState = record ready { core = left.0; moved = false } in
+    calls_rated lo hi w given.heard.now given.made acting b
+    (calls_from again (or_pick left.1) (length again + core_count (most - length again) (room - length again) acting left.1))
+    (moment_rate heard in_contact at ∙ heard_rate p packets ∙ has) low high
 
 wider_bound : (total credit rate mark after lo low most l : ℕ) → low ≤ lo → max mark lo ≤ after → after ≤ l
     → total + credit + rate * (l - after) ≤ most + rate * (l - max mark lo) → total + credit + rate * (l - after) ≤ most + rate * (l - max mark low)

@@ -1,9 +1,9 @@
 -- A sending worker within a turn.
 use Rattle.std.proofs.Common.{◌≡◌, ◌∙◌, ◌<◌, ◌≤◌, ◌+◌, ◌++◌, ◌&&◌, ℕ, Bool, List, [], ◌∷◌, ap, arith, false, inl, inr, length, map, refl, subst, suc, sym, true, zero}
-use Rattle.std.specs.Prelude.{◌==◌, ◌⊎◌, fold, nat_lt, take, if◌then◌else◌, Option, Some, None, Ok, Err, IfNone, IfSome}
+use Rattle.std.specs.Prelude.{◌-◌, ◌==◌, ◌⊎◌, slice_index_or, fold, nat_lt, take, if◌then◌else◌, Option, Some, None, Ok, Err, IfNone, IfSome}
 use Rattle.std.proofs.lemmas.Bool.Decides.{nat_tests}
-use Rattle.std.specs.List.{cons_option, filter_map, range_with_len, zip}
-use Rattle.std.proofs.lemmas.List.{append-nil, append_assoc, length-append, map-append, take_all}
+use Rattle.std.specs.List.{cons_option, filter, filter_map, range_with_len, zip}
+use Rattle.std.proofs.lemmas.List.{append-nil, append_assoc, length-append, length-take, map-append, take_all}
 use Rattle.std.proofs.lemmas.List.Elements.{filter_map-append}
 use Rattle.std.proofs.lemmas.Option.{none-some}
 use Rattle.std.proofs.lemmas.List.FromFn.{length-map-range_with_len, map-range_with_len_more}
@@ -14,6 +14,8 @@ use Rattle.rly_hop.specs.declared.sending.event.OutEvent.{OutEvent}
 use Rattle.rly_hop.specs.declared.sending.event.OutEvent.TheVariants.{Turn}
 use Rattle.rly_hop.specs.Sender.{Sender}
 use Rattle.rly_hop.specs.Sending.{sender, sending_step}
+use Rattle.rly_hop_pacing.specs.CongestionControl.{ControlView, is_missing, repeats, spare_number}
+use Rattle.rly_hop_pacing.specs.Flights.{sent_numbers}
 use Rattle.rly_line.specs.declared.call_error.BatchError.TheVariants as batch
 use Rattle.rly_line.specs.declared.call_error.CallError.TheVariants.{Closed, Lost}
 use Rattle.rly_machine.specs.declared.call.Answer.{Answer}
@@ -28,7 +30,7 @@ use Rattle.rly_link.specs.declared.turn.Worker.TheVariants as worker
 use Rattle.rly_threads_workers.specs.DeskExchanges.{BatchOutcome, CallOutcome, call_asked}
 use Rattle.rly_link.specs.LinkHistory.{TellsMore, new_hearing}
 use Rattle.rly_threads_workers.specs.declared.sender_state.SenderState.{SenderState}
-use Rattle.rly_threads_workers.specs.SenderTurns.{SenderWorker, call_at, calls_from, event_in, named_ask, after_out_event, sender_worker, sender_acts, sender_done, sender_events, sender_on_action, sender_on_calls, sender_on_packet, sender_sent, sender_turn, sent_on, waits_first}
+use Rattle.rly_threads_workers.specs.SenderTurns.{SenderWorker, again_numbers, call_at, calls_from, core_call_at, core_count, event_in, named_ask, or_pick, repeat_count, after_out_event, sender_worker, sender_acts, sender_done, sender_events, sender_on_action, sender_on_calls, sender_on_packet, sender_sent, sender_turn, sent_on, waits_first}
 use Rattle.rly_threads_workers.specs.SenderState.{first_sender_state, on_moment, send_room}
 use Rattle.rly_threads_workers.specs.HelpersTurns.{Did, HasHeard, HasHandedEvent, IsCall, call_event}
 use Rattle.rly_threads_workers.specs.Runs.{EndsView, Ran}
@@ -75,40 +77,40 @@ zip_more (w ∷ xs) [] x y same = absurd (omega (arith, same))
 zip_more (w ∷ xs) (z ∷ ys) x y same = ap (λ l. (w, z) ∷ l) (zip_more xs ys x y (omega (arith, same)))
 
 -- one more call
-pub calls_more : (first : OutAction (List ℕ)) (count : ℕ) → calls_from first (count + 1) ≡ calls_from first count ++ call_at first count ∷ []
-calls_more first count = map-range_with_len_more (call_at first) 0 count count (omega arith)
+pub calls_more : (again : List ℕ) (named : OutAction (List ℕ)) (count : ℕ) → calls_from again named (count + 1) ≡ calls_from again named count ++ call_at again named count ∷ []
+calls_more again named count = map-range_with_len_more (call_at again named) 0 count count (omega arith)
 
-pub length_calls : (first : OutAction (List ℕ)) (count : ℕ) → length (calls_from first count) ≡ count
-length_calls first count = length-map-range_with_len (call_at first) 0 count
+pub length_calls : (again : List ℕ) (named : OutAction (List ℕ)) (count : ℕ) → length (calls_from again named count) ≡ count
+length_calls again named count = length-map-range_with_len (call_at again named) 0 count
 
 -- one more answer
-pub events_more : (first : OutAction (List ℕ)) (count : ℕ) (answers : List Answer) (answer : Answer) → length answers ≡ count
-    → sender_events (calls_from first (count + 1)) (Ok (answers ++ answer ∷ []))
-    ≡ sender_events (calls_from first count) (Ok answers) ++ event_in (call_at first count) answer.reply ∷ []
-events_more first count answers answer each =
+pub events_more : (again : List ℕ) (named : OutAction (List ℕ)) (count : ℕ) (answers : List Answer) (answer : Answer) → length answers ≡ count
+    → sender_events (calls_from again named (count + 1)) (Ok (answers ++ answer ∷ []))
+    ≡ sender_events (calls_from again named count) (Ok answers) ++ event_in (call_at again named count) answer.reply ∷ []
+events_more again named count answers answer each =
     let told : (OutAction (List ℕ) × Answer) → OutEvent (List ℕ) = λ x. event_in x.0 x.1.reply in
-    let calls = calls_from first count in
-    let last = call_at first count in
-    ap (λ l. map told (zip l (answers ++ answer ∷ []))) (calls_more first count)
-    ∙ ap (map told) (zip_more calls answers last answer (each ∙ sym (length_calls first count)))
+    let calls = calls_from again named count in
+    let last = call_at again named count in
+    ap (λ l. map told (zip l (answers ++ answer ∷ []))) (calls_more again named count)
+    ∙ ap (map told) (zip_more calls answers last answer (each ∙ sym (length_calls again named count)))
     ∙ map-append told (zip calls answers) ((last, answer) ∷ [])
 
 -- so far: these were answered
-pub record Telling (first : OutAction (List ℕ)) (in_contact : Bool) (at : ℕ) (old now : EndsView) (before after : SenderState) (all left : List Answer) (place : ℕ) : Type 0 where
+pub record Telling (again : List ℕ) (named : OutAction (List ℕ)) (in_contact : Bool) (at : ℕ) (old now : EndsView) (before after : SenderState) (all left : List Answer) (place : ℕ) : Type 0 where
   pub done : List Answer
   pub parts : all ≡ done ++ left
   pub count : length done ≡ place
-  pub told : HasHandedEvent in_contact at old now before after (sender_events (calls_from first place) (Ok done))
+  pub told : HasHandedEvent in_contact at old now before after (sender_events (calls_from again named place) (Ok done))
 
-pub telling_more : (first : OutAction (List ℕ)) (in_contact : Bool) (at : ℕ) (old mid new : EndsView) (p q r : SenderState) (all left rest : List Answer) (place : ℕ)
+pub telling_more : (again : List ℕ) (named : OutAction (List ℕ)) (in_contact : Bool) (at : ℕ) (old mid new : EndsView) (p q r : SenderState) (all left rest : List Answer) (place : ℕ)
     (answer : Answer) (e : OutEvent (List ℕ))
-    → Telling first in_contact at old mid p q all left place → left ≡ answer ∷ rest → e ≡ event_in (call_at first place) answer.reply
+    → Telling again named in_contact at old mid p q all left place → left ≡ answer ∷ rest → e ≡ event_in (call_at again named place) answer.reply
     → r ≡ after_out_event in_contact at q e → TellsMore mid.sent new.sent (sent_on in_contact at q e) → new ≡ record mid { sent = new.sent }
-    → Telling first in_contact at old new p r all rest (place + 1)
-telling_more first in_contact at old mid new p q r all left rest place answer e h lefts is told sent same =
-    let more = told_more in_contact at old mid new p q r (sender_events (calls_from first place) (Ok h.done)) e h.told told sent same in
-    let events : sender_events (calls_from first place) (Ok h.done) ++ e ∷ [] ≡ sender_events (calls_from first (place + 1)) (Ok (h.done ++ answer ∷ [])) =
-    ap (λ x. sender_events (calls_from first place) (Ok h.done) ++ x ∷ []) is ∙ sym (events_more first place h.done answer h.count) in
+    → Telling again named in_contact at old new p r all rest (place + 1)
+telling_more again named in_contact at old mid new p q r all left rest place answer e h lefts is told sent same =
+    let more = told_more in_contact at old mid new p q r (sender_events (calls_from again named place) (Ok h.done)) e h.told told sent same in
+    let events : sender_events (calls_from again named place) (Ok h.done) ++ e ∷ [] ≡ sender_events (calls_from again named (place + 1)) (Ok (h.done ++ answer ∷ [])) =
+    ap (λ x. sender_events (calls_from again named place) (Ok h.done) ++ x ∷ []) is ∙ sym (events_more again named place h.done answer h.count) in
     record {
       done = h.done ++ answer ∷ [];
       parts = h.parts ∙ ap (λ l. h.done ++ l) lefts ∙ sym (append_assoc h.done (answer ∷ []) rest);
@@ -121,52 +123,62 @@ release_asks : (w : SenderWorker) (now number : ℕ) (is_first : Bool) → (ask 
 release_asks w now number true = (_, refl)
 release_asks w now number false = (_, refl)
 
+-- the ask of a call for the core's request
+core_ask_at : (w : SenderWorker) (now : ℕ) (named : OutAction (List ℕ)) (place : ℕ) → IsCall named → (ask : Ask) × (named_ask w now (core_call_at named place) ≡ Some ask)
+core_ask_at w now action.AskWindow place is = (_, refl)
+core_ask_at w now (action.Release number) place is = release_asks w now number (place == 0)
+core_ask_at w now (action.Fetch number) place is = (_, refl)
+core_ask_at w now action.Pick place is = (_, refl)
+core_ask_at w now (action.Send m) place is = absurd is
+
+either_asks : (w : SenderWorker) (now number : ℕ) (named : OutAction (List ℕ)) (is_again : Bool) → ((ask : Ask) × (named_ask w now named ≡ Some ask))
+    → (ask : Ask) × (named_ask w now (if is_again then action.Fetch number else named) ≡ Some ask)
+either_asks w now number named true one = (_, refl)
+either_asks w now number named false one = one
+
 -- the ask of a call that is nothing else
-ask_at : (w : SenderWorker) (now : ℕ) (first : OutAction (List ℕ)) (place : ℕ) → IsCall first → (ask : Ask) × (named_ask w now (call_at first place) ≡ Some ask)
-ask_at w now action.AskWindow place is = (_, refl)
-ask_at w now (action.Release number) place is = release_asks w now number (place == 0)
-ask_at w now (action.Fetch number) place is = (_, refl)
-ask_at w now action.Pick place is = (_, refl)
-ask_at w now (action.Send m) place is = absurd is
+ask_at : (w : SenderWorker) (now : ℕ) (again : List ℕ) (named : OutAction (List ℕ)) (place : ℕ) → IsCall named → (ask : Ask) × (named_ask w now (call_at again named place) ≡ Some ask)
+ask_at w now again named place is =
+    either_asks w now (slice_index_or again place 0) (core_call_at named (place - length again)) (nat_lt place (length again)) (core_ask_at w now named (place - length again) is)
 
 cons_some : {A : Type 0} (x : Option A) (a : A) (xs : List A) → x ≡ Some a → length (cons_option x xs) ≡ suc (length xs)
 cons_some x a xs e = ap (λ y. length (cons_option y xs)) e
 
-each_asks : (w : SenderWorker) (now : ℕ) (first : OutAction (List ℕ)) (from count : ℕ) → IsCall first → length (filter_map (named_ask w now) (map (call_at first) (range_with_len from count))) ≡ count
-each_asks w now first from zero is = refl
-each_asks w now first from (suc count) is =
-    let one = ask_at w now first from is in
-    cons_some (named_ask w now (call_at first from)) one.0 (filter_map (named_ask w now) (map (call_at first) (range_with_len (from + 1) count))) one.1
-    ∙ ap suc (each_asks w now first (from + 1) count is)
+each_asks : (w : SenderWorker) (now : ℕ) (again : List ℕ) (named : OutAction (List ℕ)) (from count : ℕ) → IsCall named → length (filter_map (named_ask w now) (map (call_at again named) (range_with_len from count))) ≡ count
+each_asks w now again named from zero is = refl
+each_asks w now again named from (suc count) is =
+    let one = ask_at w now again named from is in
+    cons_some (named_ask w now (call_at again named from)) one.0 (filter_map (named_ask w now) (map (call_at again named) (range_with_len (from + 1) count))) one.1
+    ∙ ap suc (each_asks w now again named (from + 1) count is)
 
 -- there is an ask for each call
-pub length_asks : (w : SenderWorker) (now : ℕ) (first : OutAction (List ℕ)) (count : ℕ) → IsCall first → length (filter_map (named_ask w now) (calls_from first count)) ≡ count
-length_asks w now first count is = each_asks w now first 0 count is
+pub length_asks : (w : SenderWorker) (now : ℕ) (again : List ℕ) (named : OutAction (List ℕ)) (count : ℕ) → IsCall named → length (filter_map (named_ask w now) (calls_from again named count)) ≡ count
+length_asks w now again named count is = each_asks w now again named 0 count is
 
 -- one more is listed
-pub asks_more : (w : SenderWorker) (now : ℕ) (first : OutAction (List ℕ)) (count : ℕ)
-    → filter_map (named_ask w now) (calls_from first (count + 1)) ≡ filter_map (named_ask w now) (calls_from first count) ++ cons_option (named_ask w now (call_at first count)) []
-asks_more w now first count =
-    ap (filter_map (named_ask w now)) (calls_more first count) ∙ filter_map-append (named_ask w now) (calls_from first count) (call_at first count ∷ [])
+pub asks_more : (w : SenderWorker) (now : ℕ) (again : List ℕ) (named : OutAction (List ℕ)) (count : ℕ)
+    → filter_map (named_ask w now) (calls_from again named (count + 1)) ≡ filter_map (named_ask w now) (calls_from again named count) ++ cons_option (named_ask w now (call_at again named count)) []
+asks_more w now again named count =
+    ap (filter_map (named_ask w now)) (calls_more again named count) ∙ filter_map-append (named_ask w now) (calls_from again named count) (call_at again named count ∷ [])
 
 cons_few : {A : Type 0} (x : Option A) → length (cons_option x []) ≤ 1
 cons_few None = omega arith
 cons_few (Some a) = omega arith
 
 -- no more asks than calls
-pub few_asks : (w : SenderWorker) (now : ℕ) (first : OutAction (List ℕ)) (count : ℕ) → length (filter_map (named_ask w now) (calls_from first count)) ≤ count
-few_asks w now first zero = omega arith
-few_asks w now first (suc count) =
-    let some = filter_map (named_ask w now) (calls_from first count) in
-    let one = cons_option (named_ask w now (call_at first count)) [] in
+pub few_asks : (w : SenderWorker) (now : ℕ) (again : List ℕ) (named : OutAction (List ℕ)) (count : ℕ) → length (filter_map (named_ask w now) (calls_from again named count)) ≤ count
+few_asks w now again named zero = omega arith
+few_asks w now again named (suc count) =
+    let some = filter_map (named_ask w now) (calls_from again named count) in
+    let one = cons_option (named_ask w now (call_at again named count)) [] in
     let next : suc count ≡ count + 1 = omega arith in
     omega (
       arith,
-      ap (λ n. length (filter_map (named_ask w now) (calls_from first n))) next,
-      ap length (asks_more w now first count),
+      ap (λ n. length (filter_map (named_ask w now) (calls_from again named n))) next,
+      ap length (asks_more w now again named count),
       length-append some one,
-      cons_few (named_ask w now (call_at first count)),
-      few_asks w now first count,
+      cons_few (named_ask w now (call_at again named count)),
+      few_asks w now again named count,
     )
 
 -- calls were submitted together, and the messages requested on their answers were sent or held back
@@ -203,19 +215,12 @@ one_event named (Ok answer) = refl
 one_event named (Err (Closed back)) = refl
 one_event named (Err Lost) = refl
 
--- the first call is the requested one
-first_call : (named : OutAction (List ℕ)) → call_at named 0 ≡ named
-first_call action.AskWindow = refl
-first_call (action.Release number) = refl
-first_call (action.Fetch number) = ap action.Fetch (omega arith)
-first_call action.Pick = refl
-first_call (action.Send m) = refl
+-- the call that is submitted alone
+pub one_call : (again : List ℕ) (named : OutAction (List ℕ)) → calls_from again named 1 ≡ call_at again named 0 ∷ []
+one_call again named = refl
 
-one_call : (named : OutAction (List ℕ)) → calls_from named 1 ≡ named ∷ []
-one_call named = ap (λ x. x ∷ []) (first_call named)
-
-one_ask : (w : SenderWorker) (now : ℕ) (named : OutAction (List ℕ)) (ask : Ask) → Some ask ≡ named_ask w now named → ask ∷ [] ≡ filter_map (named_ask w now) (calls_from named 1)
-one_ask w now named ask is = ap (λ x. cons_option x []) is ∙ ap (filter_map (named_ask w now)) (sym (one_call named))
+one_ask : (w : SenderWorker) (now : ℕ) (named : OutAction (List ℕ)) (ask : Ask) → Some ask ≡ named_ask w now named → ask ∷ [] ≡ filter_map (named_ask w now) (named ∷ [])
+one_ask w now named ask is = ap (λ x. cons_option x []) is
 
 -- one call was made
 pub called_one : (w : SenderWorker) (old mid new : EndsView) (now : ℕ) (before after : Go) (p left : SenderState) (named : OutAction (List ℕ)) (ask : Ask) (outcome : CallOutcome) (e : OutEvent (List ℕ)) (in_contact : Bool)
@@ -225,21 +230,77 @@ pub called_one : (w : SenderWorker) (old mid new : EndsView) (now : ℕ) (before
     → e ≡ call_event named outcome
     → left ≡ after_out_event in_contact after.since p e
     → TellsMore mid.sent new.sent (sent_on in_contact after.since p e) → new ≡ record mid { sent = new.sent }
-    → Did old new left (sender_on_calls w now (record { outcome = one_outcome outcome; before = before; after = after }) p (calls_from named 1))
+    → Did old new left (sender_on_calls w now (record { outcome = one_outcome outcome; before = before; after = after }) p (named ∷ []))
 called_one w old mid new now before after p left named ask outcome e in_contact is asked around quiet opening event told sent same =
     let made : Made = record { outcome = one_outcome outcome; before = before; after = after } in
     let one = told_more in_contact after.since mid mid new p p left [] e (told_none in_contact after.since mid p) told sent same in
-    let events : e ∷ [] ≡ sender_events (calls_from named 1) made.outcome =
-    ap (λ x. x ∷ []) event ∙ sym (one_event named outcome) ∙ ap (λ l. sender_events l made.outcome) (sym (one_call named)) in
-    called w old mid new now made p left (calls_from named 1) (ask ∷ []) in_contact
-    (omega (arith, length_calls named 1)) (one_ask w now named ask is) (subst (λ x. TellsMore old.asked mid.asked (x ∷ [])) (one_asked ask outcome) asked) around quiet opening
+    let events : e ∷ [] ≡ sender_events (named ∷ []) made.outcome = ap (λ x. x ∷ []) event ∙ sym (one_event named outcome) in
+    called w old mid new now made p left (named ∷ []) (ask ∷ []) in_contact
+    (omega arith) (one_ask w now named ask is) (subst (λ x. TellsMore old.asked mid.asked (x ∷ [])) (one_asked ask outcome) asked) around quiet opening
     (subst (HasHandedEvent in_contact after.since mid new p left) events one)
 
 -- a call has an ask
 pub call_asks : (w : SenderWorker) (now : ℕ) (named : OutAction (List ℕ)) → IsCall named → None ≡ named_ask w now named → ⊥
-call_asks w now named is none =
-    let one = ask_at w now named 0 is in
-    none-some one.0 (none ∙ ap (named_ask w now) (sym (first_call named)) ∙ one.1)
+call_asks w now action.AskWindow is none = none-some _ none
+call_asks w now (action.Release number) is none = none-some _ none
+call_asks w now (action.Fetch number) is none = none-some _ none
+call_asks w now action.Pick is none = none-some _ none
+call_asks w now (action.Send m) is none = absurd is
+
+-- what is submitted for the core's request is a call
+pub or_pick_is_call : (named : Option (OutAction (List ℕ))) → IsCall (or_pick named)
+or_pick_is_call None = tt
+or_pick_is_call (Some action.AskWindow) = tt
+or_pick_is_call (Some (action.Release number)) = tt
+or_pick_is_call (Some (action.Fetch number)) = tt
+or_pick_is_call (Some action.Pick) = tt
+or_pick_is_call (Some (action.Send m)) = tt
+
+release_is : (number : ℕ) (is_first : Bool) → IsCall (if is_first then action.Release number else action.Pick)
+release_is number true = tt
+release_is number false = tt
+
+core_call_is : (named : OutAction (List ℕ)) (place : ℕ) → IsCall named → IsCall (core_call_at named place)
+core_call_is action.AskWindow place is = tt
+core_call_is (action.Release number) place is = release_is number (place == 0)
+core_call_is (action.Fetch number) place is = tt
+core_call_is action.Pick place is = tt
+core_call_is (action.Send m) place is = absurd is
+
+either_is : (number : ℕ) (named : OutAction (List ℕ)) (is_again : Bool) → IsCall named → IsCall (if is_again then action.Fetch number else named)
+either_is number named true is = tt
+either_is number named false is = is
+
+pub call_at_is_call : (again : List ℕ) (named : OutAction (List ℕ)) (place : ℕ) → IsCall named → IsCall (call_at again named place)
+call_at_is_call again named place is =
+    either_is (slice_index_or again place 0) (core_call_at named (place - length again)) (nat_lt place (length again)) (core_call_is named (place - length again) is)
+
+-- no more calls than may be submitted together
+lt_true : (a b : ℕ) → a < b → nat_lt a b ≡ true
+lt_true a b h = grind (arith, nat_tests)
+
+lt_false : (a b : ℕ) → b ≤ a → nat_lt a b ≡ false
+lt_false a b h = grind (arith, nat_tests)
+
+spare_few : (pace : ControlView) (most room at : ℕ) → length (if nat_lt 0 room then cons_option (spare_number pace at) [] else []) ≤ repeat_count most room
+spare_few pace most zero at =
+    omega (arith, ap (λ b. length (if b then cons_option (spare_number pace at) [] else [])) (lt_false 0 0 (omega arith)))
+spare_few pace most (suc room) at =
+    omega (arith, ap (λ b. length (if b then cons_option (spare_number pace at) [] else [])) (lt_true 0 (suc room) (omega arith)), cons_few (spare_number pace at))
+
+-- no more numbers are sent again than may be in a turn
+pub again_few : (pace : ControlView) (most room at : ℕ) (missing : List ℕ) → length missing ≤ repeat_count most room
+    → length (again_numbers pace room at missing) ≤ repeat_count most room
+again_few pace most room at [] few = spare_few pace most room at
+again_few pace most room at (first ∷ others) few = few
+
+pub missing_few : (pace : ControlView) (count at : ℕ) (missing : List ℕ) → missing ≡ repeats pace count at → length missing ≤ count
+missing_few pace count at missing is = omega (arith, ap length is, length-take count (filter (is_missing pace at) (sent_numbers pace.flight)))
+
+pub count_fits : (most room : ℕ) (p : SenderState) (named : Option (OutAction (List ℕ))) (again : ℕ) → 1 ≤ most → again ≤ repeat_count most room
+    → again + core_count (most - again) (room - again) p named ≤ most
+count_fits most room p None again some few = omega (arith, some, few)
+count_fits most room p (Some named) again some few = grind arith
 
 -- several calls are 64 at most, and there is room for their answers
 pub several_fit : (most asks answers count : ℕ) → ((most ≡ 64) × (64 ≤ asks) × (64 ≤ answers)) ⊎ (most ≡ 1) → 1 < count → count ≤ most → (count ≤ 64) × (count ≤ answers)
@@ -247,14 +308,14 @@ several_fit most asks answers count (inl room) several few = (omega (arith, room
 several_fit most asks answers count (inr one) several few = absurd (omega (arith, one, several, few))
 
 -- so far: these packets were received
-pub record Hearing (waits : Bool) (old now : EndsView) (before after : Sender) (place : ℕ) : Type 0 where
+pub record Hearing (waits : Bool) (old now : EndsView) (before after : SenderState) (place : ℕ) : Type 0 where
   pub packets : List (List ℕ)
   pub count : length packets ≡ place
   pub heard : TellsMore old.heard now.heard (hearings_from waits (map (λ packet. Some packet) packets))
   pub same : now ≡ record old { heard = now.heard }
   pub core : after ≡ fold sender_on_packet before packets
 
-pub hearing_none : (waits : Bool) (told : EndsView) (s : Sender) → Hearing waits told told s s 0
+pub hearing_none : (waits : Bool) (told : EndsView) (s : SenderState) → Hearing waits told told s s 0
 hearing_none waits told s = record { packets = []; count = refl; heard = tells_nothing told.heard; same = refl; core = refl }
 
 abbrev some_of : List (List ℕ) → List (Option (List ℕ))
@@ -283,7 +344,7 @@ hearings_more waits (y ∷ ys) x =
     ap (λ l. new_hearing waits y ∷ l) rest
     ∙ ap (λ b. new_hearing waits y ∷ (map (λ (found : Option (List ℕ)). new_hearing false found) ys ++ new_hearing b x ∷ [])) (sym no)
 
-packet_last : (s : Sender) (packets : List (List ℕ)) (packet : List ℕ) → fold sender_on_packet s (packets ++ packet ∷ []) ≡ sender_on_packet (fold sender_on_packet s packets) packet
+packet_last : (s : SenderState) (packets : List (List ℕ)) (packet : List ℕ) → fold sender_on_packet s (packets ++ packet ∷ []) ≡ sender_on_packet (fold sender_on_packet s packets) packet
 packet_last s [] packet = refl
 packet_last s (p ∷ packets) packet = packet_last (sender_on_packet s p) packets packet
 
@@ -292,7 +353,7 @@ first_at : (waits : Bool) (packets : List (List ℕ)) (place : ℕ) (now : Bool)
 first_at waits packets place now count is = is ∙ ap (λ n. (n == 0) && waits) (sym (length_some packets ∙ count))
 
 -- one more packet was received
-pub hearing_more : (waits : Bool) (old mid new : EndsView) (s t u : Sender) (place : ℕ) (packet : List ℕ) (now : Bool)
+pub hearing_more : (waits : Bool) (old mid new : EndsView) (s t u : SenderState) (place : ℕ) (packet : List ℕ) (now : Bool)
     → Hearing waits old mid s t place → now ≡ ((place == 0) && waits)
     → TellsMore mid.heard new.heard (new_hearing now (Some packet) ∷ []) → new ≡ record mid { heard = new.heard } → u ≡ sender_on_packet t packet
     → Hearing waits old new s u (place + 1)
@@ -309,14 +370,8 @@ hearing_more waits old mid new s t u place packet now h first heard same core =
       core = core ∙ ap (λ x. sender_on_packet x packet) h.core ∙ sym (packet_last s h.packets packet);
     }
 
-lt_true : (a b : ℕ) → a < b → nat_lt a b ≡ true
-lt_true a b h = grind (arith, nat_tests)
-
-lt_false : (a b : ℕ) → b ≤ a → nat_lt a b ≡ false
-lt_false a b h = grind (arith, nat_tests)
-
 -- a receive returned nothing
-pub hearing_quiet : (waits : Bool) (old mid new : EndsView) (s t : Sender) (place : ℕ) (now : Bool)
+pub hearing_quiet : (waits : Bool) (old mid new : EndsView) (s t : SenderState) (place : ℕ) (now : Bool)
     → Hearing waits old mid s t place → place < 64 → now ≡ ((place == 0) && waits)
     → TellsMore mid.heard new.heard (new_hearing now None ∷ []) → new ≡ record mid { heard = new.heard }
     → (packets : List (List ℕ)) × HasHeard waits old new s t packets
@@ -337,7 +392,7 @@ hearing_quiet waits old mid new s t place now h below first heard same =
     )
 
 -- 64 packets were received
-pub hearing_full : (waits : Bool) (old now : EndsView) (s t : Sender) (place : ℕ) → Hearing waits old now s t place → place ≡ 64
+pub hearing_full : (waits : Bool) (old now : EndsView) (s t : SenderState) (place : ℕ) → Hearing waits old now s t place → place ≡ 64
     → (packets : List (List ℕ)) × HasHeard waits old now s t packets
 hearing_full waits old now s t place h end =
     let full : length h.packets ≡ 64 = h.count ∙ end in
@@ -353,29 +408,33 @@ hearing_full waits old now s t place h end =
     )
 
 -- a turn, after its start
-pub turned : (w : SenderWorker) (most room : ℕ) (old told mid new : EndsView) (p heard ready acting left : SenderState) (core : Sender) (given : Given) (in_contact : Bool) (action : Option (OutAction (List ℕ)))
-    → HasHeard (waits_first p.moved p.core) old told p.core core given.packets → heard ≡ record p { core = core }
+pub turned : (w : SenderWorker) (most room : ℕ) (old told mid new : EndsView) (p heard ready acting left : SenderState) (given : Given) (in_contact : Bool) (missing again : List ℕ) (action : Option (OutAction (List ℕ)))
+    → HasHeard (waits_first p.moved p.core) old told p heard given.packets
     → TellsMore told.handed mid.handed ((worker.Sender w.hop, Heard, given.heard) ∷ [])
     → mid ≡ record told { handed = mid.handed }
     → in_contact ≡ is_open w.plan w.hop given.heard.now → ready ≡ on_moment heard in_contact given.heard.since
     → room ≡ send_room ready given.heard.since
-    → acting ≡ record ready { core = (sending_step ready.core (Turn (nat_lt 0 room))).0; moved = false } → action ≡ (sending_step ready.core (Turn (nat_lt 0 room))).1
-    → Did mid new left (sender_on_action w most room given.heard.now given.made acting action) → Did old new left (sender_done w most p given)
-turned w most room old told mid new p heard ready acting left core given in_contact action hears same_but at quiet opening moment roomy acts named did =
+    → missing ≡ repeats ready.pace (repeat_count most room) given.heard.since
+    → again ≡ again_numbers ready.pace room given.heard.since missing
+    → acting ≡ record ready { core = (sending_step ready.core (Turn (nat_lt (length again) room))).0; moved = false }
+    → action ≡ (sending_step ready.core (Turn (nat_lt (length again) room))).1
+    → Did mid new left (sender_on_action w most room given.heard.now given.made acting again action) → Did old new left (sender_done w most p given)
+turned w most room old told mid new p heard ready acting left given in_contact missing again action hears at quiet opening moment roomy misses adds acts named did =
     let packets = take 64 given.packets in
     let whole : given.packets ≡ packets = sym (take_all 64 given.packets (omega (arith, hears.few))) in
-    let first : SenderState = record p { core = fold sender_on_packet p.core packets } in
-    let next : SenderState = on_moment first (is_open w.plan w.hop given.heard.now) given.heard.since in
-    let core_is : core ≡ fold sender_on_packet p.core packets = hears.core ∙ ap (fold sender_on_packet p.core) whole in
-    let heard_is : heard ≡ first = same_but ∙ (λ i. record p { core = core_is i }) in
-    let ready_is : ready ≡ next = moment ∙ (λ i. on_moment (heard_is i) (opening i) given.heard.since) in
-    let room_is : room ≡ send_room next given.heard.since = roomy ∙ ap (λ r. send_room r given.heard.since) ready_is in
-    let acting_is : acting ≡ record next { core = (sending_step next.core (Turn (nat_lt 0 (send_room next given.heard.since)))).0; moved = false } =
-    acts ∙ (λ i. record (ready_is i) { core = (sending_step (ready_is i).core (Turn (nat_lt 0 (room_is i)))).0; moved = false }) in
-    let action_is : action ≡ (sending_step next.core (Turn (nat_lt 0 (send_room next given.heard.since)))).1 =
-    named ∙ (λ i. (sending_step (ready_is i).core (Turn (nat_lt 0 (room_is i)))).1) in
-    let rest : Did mid new left (sender_acts w most (send_room next given.heard.since) next given) =
-    subst (Did mid new left) (λ i. sender_on_action w most (room_is i) given.heard.now given.made (acting_is i) (action_is i)) did in
+    let since = given.heard.since in
+    let first = fold sender_on_packet p packets in
+    let next : SenderState = on_moment first (is_open w.plan w.hop given.heard.now) since in
+    let heard_is : heard ≡ first = hears.core ∙ ap (fold sender_on_packet p) whole in
+    let ready_is : ready ≡ next = moment ∙ (λ i. on_moment (heard_is i) (opening i) since) in
+    let room_is : room ≡ send_room next since = roomy ∙ ap (λ r. send_room r since) ready_is in
+    let missing_is : missing ≡ repeats next.pace (repeat_count most (send_room next since)) since =
+    misses ∙ (λ i. repeats (ready_is i).pace (repeat_count most (room_is i)) since) in
+    let again_is = adds ∙ (λ i. again_numbers (ready_is i).pace (room_is i) since (missing_is i)) in
+    let acting_is = acts ∙ (λ i. record (ready_is i) { core = (sending_step (ready_is i).core (Turn (nat_lt (length (again_is i)) (room_is i)))).0; moved = false }) in
+    let action_is = named ∙ (λ i. (sending_step (ready_is i).core (Turn (nat_lt (length (again_is i)) (room_is i)))).1) in
+    let rest : Did mid new left (sender_acts w most (send_room next since) next given) =
+    subst (Did mid new left) (λ i. sender_on_action w most (room_is i) given.heard.now given.made (acting_is i) (again_is i) (action_is i)) did in
     let same : mid.heard ≡ told.heard = ap (λ t. t.heard) quiet in
     let hearing_is : TellsMore old.heard mid.heard (hearings_from (waits_first p.moved p.core) (receives_of packets)) =
     subst (λ x. TellsMore old.heard x (hearings_from (waits_first p.moved p.core) (receives_of packets))) (sym same)

@@ -88,8 +88,8 @@ pub record HasAnswered (r : Receiver) (old new : EndsView) (taken : List (Waitin
   pub woken : TellsMore old.woken new.woken (wakings taken)
   pub same : new ≡ record old { sent = new.sent; woken = new.woken }
 
--- a worker received these packets, and then perhaps none, and passed the messages in them to its core
-pub record HasHeard (waits : Bool) (old new : EndsView) (before after : Sender) (packets : List (List ℕ)) : Type 0 where
+-- a worker received these packets, and then perhaps none, and passed the messages in them on
+pub record HasHeard (waits : Bool) (old new : EndsView) (before after : SenderState) (packets : List (List ℕ)) : Type 0 where
   pub few : length packets ≤ 64
   pub heard : TellsMore old.heard new.heard (hearings_from waits (receives_of packets))
   pub same : new ≡ record old { heard = new.heard }

@@ -162,6 +162,7 @@ abbrev pub custody_in : Option (InAction (List ℕ)) → Option ℕ
 custody_in (Some (Send (message.Custody from to last))) = Some last
 custody_in (Some (Send (message.Data from to number limit payload))) = None
 custody_in (Some (Send (message.Refused from to number refusal))) = None
+custody_in (Some (Send (message.Heard from to last bits))) = None
 custody_in (Some (Take number limit payload)) = None
 custody_in None = None
 
@@ -172,6 +173,7 @@ refusal_packets (Some (Send (message.Data from to number limit payload))) =
     packets_of (message.Data from to number limit payload)
 refusal_packets (Some (Send (message.Refused from to number refusal))) =
     packets_of (message.Refused from to number refusal)
+refusal_packets (Some (Send (message.Heard from to last bits))) = packets_of (message.Heard from to last bits)
 refusal_packets (Some (Take number limit payload)) = []
 refusal_packets None = []
 

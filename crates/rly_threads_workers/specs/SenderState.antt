@@ -1,21 +1,22 @@
--- The state of a sending worker between turns, and its changes in a turn before its core acts: when the core gets a
--- Timeout, and how many messages may be sent (docs/PROTOCOL.md, "The pace of a hop").
+-- The state of a sending worker between turns, and its changes in a turn before its core acts: which messages it has
+-- received, when the core gets a Timeout, and how many messages may be sent (docs/PROTOCOL.md, "The pace of a hop").
 use Rattle.std.specs.Prelude.{ℕ, min, List, [], ◌∷◌, ◌++◌, length, Bool, true, false, nat_le}
-use Rattle.std.specs.Prelude.{if◌then◌else◌, Option, Some, None, option_map}
+use Rattle.std.specs.Prelude.{if◌then◌else◌, Option, Some, None, is_some, option_map}
 use Rattle.rly_core.specs.declared.params.Params.{Params}
+use Rattle.rly_hop.specs.declared.message.Message.{Message}
 use Rattle.rly_hop.specs.declared.message.Message.TheVariants as message
 use Rattle.rly_hop.specs.declared.sending.event.OutAction.{OutAction}
 use Rattle.rly_hop.specs.declared.sending.event.OutAction.TheVariants as action
 use Rattle.rly_hop.specs.declared.sending.event.OutEvent.{OutEvent}
 use Rattle.rly_hop.specs.declared.sending.event.OutEvent.TheVariants as event
 use Rattle.rly_hop.specs.Sender.{Sender}
-use Rattle.rly_hop.specs.Sending.{sending_step, turn_action}
+use Rattle.rly_hop.specs.Sending.{repeat_action, reports_flight, sending_step, turn_action}
 use Rattle.rly_hop.specs.Spelling.{longest_message}
 use Rattle.rly_hop_pacing.specs.declared.rate.Bucket.{Bucket}
-use Rattle.rly_hop_pacing.specs.CongestionControl.{ControlView, first_control, is_opening, is_timeout, on_contact}
-use Rattle.rly_hop_pacing.specs.CongestionControl.{on_covered}
+use Rattle.rly_hop_pacing.specs.CongestionControl.{ControlView, first_control, is_opening, on_contact, on_covered, on_heard}
 use Rattle.rly_hop_pacing.specs.CongestionControl.{on_sent, on_time, on_window, open_room}
 use Rattle.rly_hop_pacing.specs.Rates.{first_bucket, may_take, on_take, room_at}
+use Rattle.rly_threads_workers.specs.declared.sender_state.Report.{Report}
 use Rattle.rly_threads_workers.specs.declared.sender_state.SenderState.{SenderState}
 
 -- Initially, in a spool with these parameters: one Pick may be submitted, no contact is open, and the burst is
@@ -26,8 +27,25 @@ first_sender_state core params resend rate = record {
   core = core;
   moved = false;
   picks = 1;
-  pace = first_control resend params.window;
+  pace = first_control resend params.window (is_some rate);
   rate = option_map (λ r. first_bucket r (longest_message params.payload) 0) rate;
+  report = None;
+}
+
+-- a Heard on the flight is kept until the turn's time, the last one of a turn
+abbrev pub report_after : SenderState → Message (List ℕ) → Option Report
+report_after p (message.Heard from to last bits) =
+    if reports_flight p.core from to last then Some (record { last = last; bits = bits }) else p.report
+report_after p (message.Data from to number limit payload) = p.report
+report_after p (message.Custody from to last) = p.report
+report_after p (message.Refused from to number refusal) = p.report
+
+-- the state after a message, if one was received: the core gets it
+abbrev pub sender_on_hearing : SenderState → Option (Message (List ℕ)) → SenderState
+sender_on_hearing p None = p
+sender_on_hearing p (Some m) = record p {
+  core = (sending_step p.core (event.Heard m)).0;
+  report = report_after p m;
 }
 
 -- the core gets a Timeout, if this is true
@@ -52,13 +70,19 @@ control_on_release pace None at = pace
 abbrev pub with_custody : SenderState → ℕ → SenderState
 with_custody p at = record p { pace = control_on_release p.pace (turn_action p.core false) at }
 
--- the core gets a Timeout, if one is due
-abbrev pub with_time : SenderState → ℕ → SenderState
-with_time p at = set_back_if (is_timeout p.pace at) (record p { pace = on_time p.pace at })
+-- the congestion control gets the Heard
+abbrev pub control_on_report : ControlView → Option Report → ℕ → ControlView
+control_on_report pace None at = pace
+control_on_report pace (Some report) at = on_heard pace report.last report.bits at
 
--- the state at the turn's time, after the packets were received: a custody precedes a Timeout
+abbrev pub with_report : SenderState → ℕ → SenderState
+with_report p at = record p { pace = control_on_report p.pace p.report at; report = None }
+
+-- the state at the turn's time, after the packets were received: a custody precedes a Heard, and both precede a Timeout
 abbrev pub on_moment : SenderState → Bool → ℕ → SenderState
-on_moment p is_open at = with_time (with_custody (with_contact p is_open) at) at
+on_moment p is_open at =
+    let told = with_report (with_custody (with_contact p is_open) at) at in
+    record told { pace = on_time told.pace at }
 
 -- of this many messages, how many the rate permits at a moment, if each may be the longest
 abbrev pub rate_room : Option Bucket → ℕ → ℕ → ℕ
@@ -67,7 +91,7 @@ rate_room (Some b) at room = min room (room_at b at)
 
 -- How many messages may be sent at a moment. If none may, the core's turn counts its contact as closed.
 abbrev pub send_room : SenderState → ℕ → ℕ
-send_room p at = rate_room p.rate at (open_room p.pace)
+send_room p at = rate_room p.rate at (open_room p.pace at)
 
 -- whether the rate permits a packet at a moment, and the bucket after it
 abbrev pub lets_out : Option Bucket → List ℕ → ℕ → Bool
@@ -88,6 +112,29 @@ abbrev pub rate_after : Option Bucket → List (List ℕ) → ℕ → Option Buc
 rate_after rate [] at = rate
 rate_after rate (packet ∷ others) at = rate_after (rate_after_one rate packet at) others at
 
+-- an action, or another if there is none
+abbrev pub or_else : {A : Type 0} → Option A → Option A → Option A
+or_else None other = other
+or_else (Some a) other = Some a
+
+-- the answer to the Fetch of a number that the core has sent is sent again
+abbrev pub repeat_on : Sender → OutEvent (List ℕ) → Option (OutAction (List ℕ))
+repeat_on s (event.Fetched number limit payload) = repeat_action s number limit payload
+repeat_on s (event.WindowIs first next) = None
+repeat_on s (event.Picked number) = None
+repeat_on s event.Nothing = None
+repeat_on s event.Released = None
+repeat_on s event.Unchanged = None
+repeat_on s (event.Refused refusal) = None
+repeat_on s event.Other = None
+repeat_on s event.Timeout = None
+repeat_on s (event.Heard m) = None
+repeat_on s (event.Turn in_contact) = None
+
+-- the action on an event of the core: the one that it requests, or a repeat
+abbrev pub action_on : Sender → OutEvent (List ℕ) → Option (OutAction (List ℕ))
+action_on s told = or_else (sending_step s told).1 (repeat_on s told)
+
 -- the core gets the window
 abbrev pub control_on_answer : ControlView → OutEvent (List ℕ) → ControlView
 control_on_answer pace (event.WindowIs first next) = if nat_le first next then on_window pace first next else pace
@@ -102,11 +149,12 @@ control_on_answer pace event.Timeout = pace
 control_on_answer pace (event.Heard m) = pace
 control_on_answer pace (event.Turn in_contact) = pace
 
--- the core sends a number, whether or not the packet leaves
+-- a number is sent, whether or not the packet leaves
 abbrev pub control_on_named : ControlView → Option (OutAction (List ℕ)) → ℕ → ControlView
 control_on_named pace (Some (action.Send (message.Data from to number limit payload))) at = on_sent pace number at
 control_on_named pace (Some (action.Send (message.Custody from to last))) at = pace
 control_on_named pace (Some (action.Send (message.Refused from to number refusal))) at = pace
+control_on_named pace (Some (action.Send (message.Heard from to last bits))) at = pace
 control_on_named pace (Some action.AskWindow) at = pace
 control_on_named pace (Some (action.Release number)) at = pace
 control_on_named pace (Some (action.Fetch number)) at = pace

@@ -1,10 +1,9 @@
 -- A sending worker, turn by turn (docs/PROTOCOL.md, "The sending core").
-use Rattle.std.specs.Prelude.{ℕ, ◌+◌, ◌-◌, ◌==◌, min, nat_lt, List, [], ◌∷◌, ◌++◌, map, take, Bool, true, false, not}
-use Rattle.std.specs.Prelude.{◌||◌, if◌then◌else◌, fold, Option, Some, None, is_some, Ok, Err}
-use Rattle.std.specs.List.{filter_map, range_with_len, zip}
+use Rattle.std.specs.Prelude.{ℕ, ◌+◌, ◌-◌, ◌==◌, min, max, nat_lt, List, [], ◌∷◌, ◌++◌, length, map, take, Bool, true}
+use Rattle.std.specs.Prelude.{false, not, ◌||◌, if◌then◌else◌, fold, slice_index_or, Option, Some, None, is_some, Ok, Err}
+use Rattle.std.specs.List.{cons_option, filter_map, range_with_len, zip}
 use Rattle.rly_core.specs.declared.ids.HopId.{HopId}
 use Rattle.rly_core.specs.declared.refusal.Refusal.TheVariants as refusal
-use Rattle.rly_hop.specs.declared.message.Message.{Message}
 use Rattle.rly_hop.specs.declared.sending.event.OutAction.{OutAction}
 use Rattle.rly_hop.specs.declared.sending.event.OutAction.TheVariants as action
 use Rattle.rly_hop.specs.declared.sending.event.OutEvent.{OutEvent}
@@ -19,13 +18,13 @@ use Rattle.rly_machine.specs.declared.command.Command.TheVariants as command
 use Rattle.rly_machine.specs.declared.command.Query.TheVariants as query
 use Rattle.rly_machine.specs.declared.reply.Reply.{Reply}
 use Rattle.rly_machine.specs.declared.reply.Reply.TheVariants as reply
-use Rattle.rly_hop_pacing.specs.CongestionControl.{unsent_count}
+use Rattle.rly_hop_pacing.specs.CongestionControl.{ControlView, repeats, spare_number, unsent_count}
 use Rattle.rly_plan.specs.ContactPlan.{ContactPlan, is_open, link}
 use Rattle.rly_threads_workers.specs.declared.sender_state.SenderState.{SenderState}
 use Rattle.rly_link.specs.declared.turn.Worker.TheVariants as worker
 use Rattle.rly_threads_workers.specs.DeskExchanges.{BatchOutcome}
-use Rattle.rly_threads_workers.specs.SenderState.{let_out, on_moment, control_on_answer, control_on_named, rate_after}
-use Rattle.rly_threads_workers.specs.SenderState.{send_room}
+use Rattle.rly_threads_workers.specs.SenderState.{action_on, control_on_answer, control_on_named, let_out, on_moment}
+use Rattle.rly_threads_workers.specs.SenderState.{rate_after, send_room, sender_on_hearing}
 use Rattle.rly_link.specs.LinkHistory.{message_in}
 use Rattle.rly_threads_workers.specs.Turns.{Done, Given, Made, around_call, has_some, nothing_done}
 use Rattle.rly_threads_workers.specs.Turns.{packets_of, with_hearings, with_start}
@@ -38,14 +37,9 @@ pub record SenderWorker : Type 0 where
 abbrev pub sender_worker : ContactPlan → HopId → SenderWorker
 sender_worker plan hop = record { plan = plan; hop = hop }
 
--- the core after a message, if one was received
-abbrev pub sender_on_hearing : Sender → Option (Message (List ℕ)) → Sender
-sender_on_hearing s None = s
-sender_on_hearing s (Some m) = (sending_step s (event.Heard m)).0
-
--- the core after a packet
-abbrev pub sender_on_packet : Sender → List ℕ → Sender
-sender_on_packet s packet = sender_on_hearing s (message_in (Some packet))
+-- the state after a packet
+abbrev pub sender_on_packet : SenderState → List ℕ → SenderState
+sender_on_packet p packet = sender_on_hearing p (message_in (Some packet))
 
 -- How many Picks are submitted with the release of all up to this number: at most as many as may be in flight after
 -- it, and as may be sent at once after those in flight that weren't sent again yet.
@@ -63,18 +57,39 @@ call_count most room p (action.Fetch number) = min (min most room) (p.core.next 
 call_count most room p action.Pick = min (min most (min room p.picks)) (p.core.window - (p.core.next - p.core.first))
 call_count most room p (action.Send m) = 0
 
--- the call at an index among those submitted together: the Fetch of a later number, a Pick after a Release, or the
+-- the same, of the core's request, if it has one, and if any call may be submitted
+abbrev pub core_count : ℕ → ℕ → SenderState → Option (OutAction (List ℕ)) → ℕ
+core_count most room p None = 0
+core_count most room p (Some named) = if most == 0 then 0 else call_count most room p named
+
+-- the call at an index among those for the core's request: the Fetch of a later number, a Pick after a Release, or the
 -- same call again
-abbrev pub call_at : OutAction (List ℕ) → ℕ → OutAction (List ℕ)
-call_at action.AskWindow place = action.AskWindow
-call_at (action.Release number) place = if place == 0 then action.Release number else action.Pick
-call_at (action.Fetch number) place = action.Fetch (number + place)
-call_at action.Pick place = action.Pick
-call_at (action.Send m) place = action.Send m
+abbrev pub core_call_at : OutAction (List ℕ) → ℕ → OutAction (List ℕ)
+core_call_at action.AskWindow place = action.AskWindow
+core_call_at (action.Release number) place = if place == 0 then action.Release number else action.Pick
+core_call_at (action.Fetch number) place = action.Fetch (number + place)
+core_call_at action.Pick place = action.Pick
+core_call_at (action.Send m) place = action.Send m
+
+-- The call at an index among those submitted together: first the Fetches of the numbers to send again, and then those
+-- for the core's request.
+abbrev pub call_at : List ℕ → OutAction (List ℕ) → ℕ → OutAction (List ℕ)
+call_at again named place =
+    if nat_lt place (length again) then action.Fetch (slice_index_or again place 0)
+    else core_call_at named (place - length again)
 
 -- this many calls that are submitted together, in order
-abbrev pub calls_from : OutAction (List ℕ) → ℕ → List (OutAction (List ℕ))
-calls_from first count = map (call_at first) (range_with_len 0 count)
+abbrev pub calls_from : List ℕ → OutAction (List ℕ) → ℕ → List (OutAction (List ℕ))
+calls_from again named count = map (call_at again named) (range_with_len 0 count)
+
+-- the call that the core requests; without one, none of its calls is submitted
+abbrev pub or_pick : Option (OutAction (List ℕ)) → OutAction (List ℕ)
+or_pick None = action.Pick
+or_pick (Some action.AskWindow) = action.AskWindow
+or_pick (Some (action.Release number)) = action.Release number
+or_pick (Some (action.Fetch number)) = action.Fetch number
+or_pick (Some action.Pick) = action.Pick
+or_pick (Some (action.Send m)) = action.Pick
 
 -- the ask of a call
 abbrev pub named_ask : SenderWorker → ℕ → OutAction (List ℕ) → Option Ask
@@ -153,19 +168,20 @@ picks_after picks event.Timeout = picks
 picks_after picks (event.Heard m) = picks
 picks_after picks (event.Turn in_contact) = picks
 
--- the packets sent at a moment on this event of the core: those that it requests, if a contact is open and the rate
--- permits it
+-- the packets sent at a moment on this event of the core: those that it requests, or a repeat, if a contact is open
+-- and the rate permits it
 abbrev pub sent_on : Bool → ℕ → SenderState → OutEvent (List ℕ) → List (List ℕ)
-sent_on in_contact at p told = let_out p.rate (sender_packets in_contact (sending_step p.core told).1) at
+sent_on in_contact at p told = let_out p.rate (sender_packets in_contact (action_on p.core told)) at
 
--- the core gets this event at a moment, and the message that it requests is sent
+-- the core gets this event at a moment, and the message that it requests, or a repeat, is sent
 abbrev pub after_out_event : Bool → ℕ → SenderState → OutEvent (List ℕ) → SenderState
 after_out_event in_contact at p told = record {
   core = (sending_step p.core told).0;
   moved = p.moved || (is_progress told || has_some (sent_on in_contact at p told));
   picks = picks_after p.picks told;
-  pace = control_on_named (control_on_answer p.pace told) (sending_step p.core told).1 at;
-  rate = rate_after p.rate (sender_packets in_contact (sending_step p.core told).1) at;
+  pace = control_on_named (control_on_answer p.pace told) (action_on p.core told) at;
+  rate = rate_after p.rate (sender_packets in_contact (action_on p.core told)) at;
+  report = p.report;
 }
 
 -- the packets sent on these events of the core, in order
@@ -189,28 +205,41 @@ sender_on_calls w now made p (first ∷ others) =
       woken = [];
     }
 
-abbrev pub sender_on_action : SenderWorker → ℕ → ℕ → ℕ → Made → SenderState → Option (OutAction (List ℕ))
-    → Done SenderState
-sender_on_action w most room now made p None = nothing_done p
-sender_on_action w most room now made p (Some named) =
-    sender_on_calls w now made p (calls_from named (call_count most room p named))
-
 -- whether a turn waits for its first packet: the one before made no progress, or the core can only receive
 abbrev pub waits_first : Bool → Sender → Bool
 waits_first moved core = not moved || not (is_some (turn_action core true))
 
--- The core's own turn, in which this many messages may be sent: if none may, its contact counts as closed.
+-- how many numbers may be sent again in a turn of at most this many calls, so that one is left for the core
+abbrev pub repeat_count : ℕ → ℕ → ℕ
+repeat_count most room = min room (max (most - 1) 1)
+
+-- The numbers that are sent again: those that are missing. If none is, perhaps another one.
+abbrev pub again_numbers : ControlView → (room at : ℕ) → List ℕ → List ℕ
+again_numbers pace room at [] = if nat_lt 0 room then cons_option (spare_number pace at) [] else []
+again_numbers pace room at (first ∷ others) = first ∷ others
+
+-- The calls for the numbers to send again and for the core's request, if this many messages may be sent.
+abbrev pub sender_on_action : SenderWorker → ℕ → ℕ → ℕ → Made → SenderState → List ℕ → Option (OutAction (List ℕ))
+    → Done SenderState
+sender_on_action w most room now made p again named =
+    sender_on_calls w now made p
+    (calls_from again (or_pick named) (length again + core_count (most - length again) (room - length again) p named))
+
+-- The core's own turn, in which this many messages may be sent, those that are sent again first: if no more may, its
+-- contact counts as closed.
 abbrev pub sender_acts : SenderWorker → ℕ → ℕ → SenderState → Given → Done SenderState
 sender_acts w most room p given =
-    let left = sending_step p.core (event.Turn (nat_lt 0 room)) in
-    sender_on_action w most room given.heard.now given.made (record p { core = left.0; moved = false }) left.1
+    let at = given.heard.since in
+    let again = again_numbers p.pace room at (repeats p.pace (repeat_count most room) at) in
+    let left = sending_step p.core (event.Turn (nat_lt (length again) room)) in
+    sender_on_action w most room given.heard.now given.made (record p { core = left.0; moved = false }) again left.1
 
 -- One turn, after its start, of at most this many calls. It receives up to 64 packets, and uses the time of the
 -- tick after them.
 abbrev pub sender_done : SenderWorker → ℕ → SenderState → Given → Done SenderState
 sender_done w most p given =
     let packets = take 64 given.packets in
-    let heard = record p { core = fold sender_on_packet p.core packets } in
+    let heard = fold sender_on_packet p packets in
     let ready = on_moment heard (is_open w.plan w.hop given.heard.now) given.heard.since in
     with_hearings (worker.Sender w.hop) (waits_first p.moved p.core) packets given.heard
     (sender_acts w most (send_room ready given.heard.since) ready given)

@@ -11,13 +11,13 @@ ghost use Rattle.rly_hop_pacing.specs.Rates.{burst, first_bucket};
 ghost use Rattle.rly_plan.specs.ContactPlan.{ContactPlan, rate, resend};
 ghost use Rattle.rly_threads_workers.specs.declared.sender_state.SenderState.{SenderState as Keeping};
 ghost use Rattle.rly_threads_workers.specs.SenderTurns.{SenderWorker as Handing};
-ghost use Rattle.rly_threads_workers.specs.SenderState.{first_sender_state};
-ghost use Rattle.rly_threads_workers.specs.Strays.{is_custody_in_flight};
+ghost use Rattle.rly_threads_workers.specs.SenderState.{first_sender_state, sender_on_hearing};
+ghost use Rattle.rly_threads_workers.specs.Strays.{is_on_flight};
 ghost use Rattle.rly_threads_workers.specs.RateKept.{earliest, latest, left_by, sent_in, total_cost};
-ghost use Rattle.rly_threads_workers.specs.SenderTurns.{call_at, call_count, calls_from, error_event, event_in};
-ghost use Rattle.rly_threads_workers.specs.SenderTurns.{named_ask, sender_worker, sender_done, sender_events};
-ghost use Rattle.rly_threads_workers.specs.SenderTurns.{sender_on_action, sender_on_calls, sender_on_hearing};
-ghost use Rattle.rly_threads_workers.specs.SenderTurns.{sender_on_packet, sender_turn, waits_first};
+ghost use Rattle.rly_threads_workers.specs.SenderTurns.{call_at, call_count, calls_from, core_call_at, core_count};
+ghost use Rattle.rly_threads_workers.specs.SenderTurns.{error_event, event_in, named_ask, or_pick, repeat_count};
+ghost use Rattle.rly_threads_workers.specs.SenderTurns.{sender_done, sender_events, sender_on_action, sender_on_calls};
+ghost use Rattle.rly_threads_workers.specs.SenderTurns.{sender_on_packet, sender_turn, sender_worker, waits_first};
 ghost use Rattle.rly_threads_workers.specs.WorkerRuns.{HasSent};
 ghost use Rattle.rly_threads_workers.specs.HelpersTurns.{Did, HasHeard, HasNumbers, HasHandedEvent, IsCall, IsIdle};
 ghost use Rattle.rly_threads_workers.specs.HelpersTurns.{call_event};
@@ -28,6 +28,7 @@ use crate::ends::{Buffer, Ends, message_in};
 use crate::sender_state::{MAX_CALLS, SenderState};
 use rly_core::{HopId, Params, Refusal, limits};
 use rly_hop::{Message, OutAction, OutEvent, Sending, StationId};
+use rly_hop_pacing::Numbers;
 use rly_line::{BatchError, CallError};
 use rly_link::{Link, MAX_PACKET, Point, Turn, Waker, Worker};
 use rly_machine::{Answer, Ask, Command, Query, Reply};
@@ -92,12 +93,13 @@ pub fn law_turns_keep_the_rate()
         + bytes * (latest first later - earliest first later) }
 {}
 
-/// No packet on a hop's port makes the sender send, except a custody of a number in flight: a turn that receives
-/// another packet asks and sends as it would without it, at the same moments, and leaves the same state.
+/// No packet on a hop's port makes the sender send, except a custody of a number in flight and a Heard on the flight: a
+/// turn that receives another packet asks and sends as it would without it, at the same moments, and leaves the same
+/// state.
 pub fn law_strays_draw_nothing()
     ensures { (w : Handing) (most : ℕ) (p : Keeping) (given : Given) (before later : List (List ℕ)) (packet : List ℕ) →
         given.packets ≡ before ++ packet ∷ later → length given.packets ≤ 64 → length (before ++ later) ≤ 64 →
-        is_custody_in_flight (fold sender_on_packet p.core before) packet ≡ false →
+        is_on_flight (fold sender_on_packet p before).core packet ≡ false →
         ((sender_turn w most p given).core ≡ (sender_turn w most p (record given { packets = before ++ later })).core)
         × ((sender_turn w most p given).sent ≡ (sender_turn w most p (record given { packets = before ++ later })).sent)
         × ((sender_turn w most p given).asked
@@ -166,20 +168,25 @@ impl<'a> SenderWorker<'a> {
         self.pacing
             .moment(self.plan.is_open(self.hop, go.now), go.since);
         let room = self.pacing.room(go.since);
-        let action = self.pacing.core.step(OutEvent::Turn { is_open: room > 0 });
-        self.act(rt, buffer, go.now, room, action, calls, ends);
+        let mut again = Numbers::new();
+        let count = repeat_count(calls.most, room);
+        self.pacing.pace.missing(count, go.since, &mut again);
+        self.pacing.add_spare(room, go.since, &mut again);
+        let is_open = (again.len() as u64) < room;
+        let action = self.pacing.core.step(OutEvent::Turn { is_open });
+        self.act(rt, buffer, go.now, room, &again, action, calls, ends);
     }
 
-    /// Receives up to 64 packets and passes them to the core.
+    /// Receives up to 64 packets and passes the messages in them on.
     fn gather<L: Link, K: Desk, T: Turn, W: Waker>(
         &mut self,
         buffer: &mut Buffer,
         ends: &mut Ends<L, K, T, W>,
     )
-        ensures same { self.new ≡ record self.old { pacing = record self.old.pacing { core = self.new.pacing.core } } }
+        ensures same { self.new ≡ record self.old { pacing = self.new.pacing } }
         ensures heard { (packets : List (List ℕ))
-            × HasHeard (waits_first self.old.pacing.moved self.old.pacing.core) ends.old ends.new self.old.pacing.core
-            self.new.pacing.core packets }
+            × HasHeard (waits_first self.old.pacing.moved self.old.pacing.core) ends.old ends.new self.old.pacing
+            self.new.pacing packets }
     {
         let mut waits = self.pacing.waits_first();
         for _place in 0..MAX_PACKETS {
@@ -192,47 +199,60 @@ impl<'a> SenderWorker<'a> {
         }
     }
 
-    /// Passes a received message to the core.
+    /// Passes a received message on.
     fn hear(&mut self, message: Option<Message<&[u8]>>)
-        ensures same { self.new ≡ record self.old { pacing = record self.old.pacing { core = self.new.pacing.core } } }
-        ensures core { self.new.pacing.core
-            ≡ sender_on_hearing self.old.pacing.core (option_map message_bytes message.entry) }
+        ensures same { self.new ≡ record self.old { pacing = self.new.pacing } }
+        ensures pacing { self.new.pacing
+            ≡ sender_on_hearing self.old.pacing (option_map message_bytes message.entry) }
     {
         if let Some(message) = message {
-            let _nothing = self.pacing.core.step(OutEvent::Heard(message));
+            self.pacing.hear(message);
         }
     }
 
-    /// Submits the calls that follow from the core's request, passes it the answers, and sends the messages that it
-    /// then requests.
+    /// Submits the calls for the numbers to send again and those that follow from the core's request, passes it the
+    /// answers, and sends the messages that it then requests and the repeats.
     fn act<R: Wait, L: Link, K: Desk, T: Turn, W: Waker>(
         &mut self,
         rt: &R,
         buffer: &mut Buffer,
         now: u64,
         room: u64,
+        again: &Numbers,
         action: Option<OutAction<&[u8]>>,
         calls: &mut Calls,
         ends: &mut Ends<L, K, T, W>,
     )
         requires idle { IsIdle calls.old }
+        requires again { length again.now.items ≤ repeat_count calls.old.most room }
         ensures idle { IsIdle calls.new }
         ensures most { calls.new.most ≡ calls.old.most }
         ensures plan { self.new.plan ≡ self.old.plan }
         ensures hop { self.new.hop ≡ self.old.hop }
         ensures done { (made : Made) × Did ends.old ends.new self.new.pacing
             (sender_on_action (sender_worker self.old.plan.now self.old.hop) calls.old.most room now made
-            (record self.old.pacing { moved = false }) (option_map out_action_bytes action.entry)) }
+            (record self.old.pacing { moved = false }) again.now.items (option_map out_action_bytes action.entry)) }
     {
         self.pacing.moved = false;
-        let Some(action) = action else {
-            return;
-        };
-        let count = self.count(room, action, calls.most);
+        let first = again.len() as u64;
+        let most = calls.most.saturating_sub(first);
+        let count = first + self.core_count(room.saturating_sub(first), action, most);
+        let named = or_pick(action);
         if count > 1 {
-            self.ask_all(rt, buffer, now, action, count, calls, ends);
+            self.ask_all(rt, buffer, now, again, named, count, calls, ends);
         } else if count > 0 {
-            self.ask(rt, buffer, now, action, ends);
+            self.ask(rt, buffer, now, call_at(again, named, 0), ends);
+        }
+    }
+
+    /// How many calls are submitted together for the core's request, if it has one and any may be.
+    fn core_count(&self, room: u64, action: Option<OutAction<&[u8]>>, most: u64) -> u64
+        ensures count { result ≡ core_count most room self.now.pacing (option_map out_action_bytes action.entry) }
+        ensures numbers { HasNumbers (or_pick (option_map out_action_bytes action.entry)) result }
+    {
+        match action {
+            Some(action) if most > 0 => self.count(room, action, most),
+            _ => 0,
         }
     }
 
@@ -268,7 +288,7 @@ impl<'a> SenderWorker<'a> {
         ensures hop { self.new.hop ≡ self.old.hop }
         ensures done { (made : Made) × Did ends.old ends.new self.new.pacing
             (sender_on_calls (sender_worker self.old.plan.now self.old.hop) now made self.old.pacing
-            (calls_from (out_action_bytes action.entry) 1)) }
+            (out_action_bytes action.entry ∷ [])) }
     {
         let Some(ask) = self.named_ask(now, action) else {
             return;
@@ -286,6 +306,7 @@ impl<'a> SenderWorker<'a> {
         rt: &R,
         buffer: &mut Buffer,
         now: u64,
+        again: &Numbers,
         action: OutAction<&[u8]>,
         count: u64,
         calls: &mut Calls,
@@ -293,7 +314,7 @@ impl<'a> SenderWorker<'a> {
     )
         requires idle { IsIdle calls.old }
         requires call { IsCall (out_action_bytes action) }
-        requires numbers { HasNumbers (out_action_bytes action) count }
+        requires numbers { HasNumbers (out_action_bytes action) (count - length again.now.items) }
         requires several { 1 < count }
         requires few { count ≤ calls.old.most }
         ensures idle { IsIdle calls.new }
@@ -302,16 +323,19 @@ impl<'a> SenderWorker<'a> {
         ensures hop { self.new.hop ≡ self.old.hop }
         ensures done { (made : Made) × Did ends.old ends.new self.new.pacing
             (sender_on_calls (sender_worker self.old.plan.now self.old.hop) now made self.old.pacing
-            (calls_from (out_action_bytes action.entry) count)) }
+            (calls_from again.now.items (out_action_bytes action.entry) count)) }
     {
-        self.list(now, action, count, &mut calls.asks);
+        self.list(now, again, action, count, &mut calls.asks);
         let worker = Worker::Sender(self.hop);
         let (outcome, go) = ends.call_all(rt, worker, &mut calls.asks, &mut calls.answers);
         // Those that weren't submitted remain.
         calls.asks.clear();
         let is_open = self.plan.is_open(self.hop, go.now);
         match outcome {
-            Ok(()) => self.tell_all(buffer, is_open, go.since, action, &mut calls.answers, ends),
+            Ok(()) => {
+                let answers = &mut calls.answers;
+                self.tell_all(buffer, is_open, go.since, again, action, answers, ends)
+            }
             Err(error) => self
                 .pacing
                 .tell(buffer, is_open, go.since, error_event(error), ends),
@@ -319,17 +343,24 @@ impl<'a> SenderWorker<'a> {
     }
 
     /// Lists the asks of this many calls, in order.
-    fn list(&self, now: u64, first: OutAction<&[u8]>, count: u64, asks: &mut Vec<Ask>)
-        requires numbers { HasNumbers (out_action_bytes first) count }
+    fn list(
+        &self,
+        now: u64,
+        again: &Numbers,
+        named: OutAction<&[u8]>,
+        count: u64,
+        asks: &mut Vec<Ask>,
+    )
+        requires numbers { HasNumbers (out_action_bytes named) (count - length again.now.items) }
         requires empty { asks.old.items ≡ [] }
         requires room { count ≤ vec_capacity asks.old }
         ensures asks { asks.new.items
             ≡ filter_map (named_ask (sender_worker self.now.plan.now self.now.hop) now)
-            (calls_from (out_action_bytes first.entry) count) }
+            (calls_from again.now.items (out_action_bytes named.entry) count) }
         ensures capacity { vec_capacity asks.new ≡ vec_capacity asks.old }
     {
         for place in 0..count {
-            if let Some(ask) = self.named_ask(now, call_at(first, place)) {
+            if let Some(ask) = self.named_ask(now, call_at(again, named, place)) {
                 asks.push_reserved(ask);
             }
         }
@@ -341,23 +372,24 @@ impl<'a> SenderWorker<'a> {
         buffer: &mut Buffer,
         is_open: bool,
         at: u64,
-        first: OutAction<&[u8]>,
+        again: &Numbers,
+        named: OutAction<&[u8]>,
         answers: &mut Vec<Answer>,
         ends: &mut Ends<L, K, T, W>,
     )
-        requires numbers { HasNumbers (out_action_bytes first) (length answers.old.items) }
+        requires numbers { HasNumbers (out_action_bytes named) (length answers.old.items - length again.now.items) }
         ensures none { answers.new.items ≡ [] }
         ensures capacity { vec_capacity answers.new ≡ vec_capacity answers.old }
         ensures same { self.new ≡ record self.old { pacing = self.new.pacing } }
         ensures told { HasHandedEvent is_open at ends.old ends.new self.old.pacing self.new.pacing
-            (sender_events (calls_from (out_action_bytes first.entry) (length answers.old.items))
+            (sender_events (calls_from again.now.items (out_action_bytes named.entry) (length answers.old.items))
             (Ok answers.old.items)) }
     {
         // The last of the reversed list is the first answer.
         answers.reverse();
         for place in 0..answers.len() as u64 {
             let answer = answers.take_last();
-            let event = event_in(call_at(first, place), &answer.reply);
+            let event = event_in(call_at(again, named, place), &answer.reply);
             self.pacing.tell(buffer, is_open, at, event, ends);
         }
     }
@@ -381,13 +413,45 @@ impl<'a> SenderWorker<'a> {
     }
 }
 
-/// The call at an index among those submitted together: the Fetch of a later number, a Pick after a Release, or the
-/// same call again.
-fn call_at<'a>(first: OutAction<&'a [u8]>, place: u64) -> OutAction<&'a [u8]>
-    requires { HasNumbers (out_action_bytes first) place }
-    ensures { out_action_bytes result ≡ call_at (out_action_bytes first.entry) place }
+/// The call that the core requests; without one, none of its calls is submitted.
+fn or_pick<'a>(action: Option<OutAction<&'a [u8]>>) -> OutAction<&'a [u8]>
+    ensures { out_action_bytes result ≡ or_pick (option_map out_action_bytes action.entry) }
 {
-    match first {
+    match action {
+        None | Some(OutAction::Send(_)) => OutAction::Pick,
+        Some(action) => action,
+    }
+}
+
+/// How many numbers may be sent again in a turn of at most `most` calls and `room` messages: one call is left for the
+/// core.
+fn repeat_count(most: u64, room: u64) -> u64
+    ensures { result ≡ repeat_count most room }
+{
+    room.min(most.saturating_sub(1).max(1))
+}
+
+/// The call at an index among those submitted together: first the Fetches of the numbers to send again, and then those
+/// for the core's request.
+fn call_at<'a>(again: &Numbers, named: OutAction<&'a [u8]>, place: u64) -> OutAction<&'a [u8]>
+    requires { HasNumbers (out_action_bytes named) (place - length again.now.items) }
+    ensures { out_action_bytes result ≡ call_at again.now.items (out_action_bytes named.entry) place }
+{
+    let first = again.len() as u64;
+    if place < first {
+        OutAction::Fetch(again[place as usize])
+    } else {
+        core_call_at(named, place - first)
+    }
+}
+
+/// The call at an index among those for the core's request: the Fetch of a later number, a Pick after a Release, or the
+/// same call again.
+fn core_call_at<'a>(named: OutAction<&'a [u8]>, place: u64) -> OutAction<&'a [u8]>
+    requires { HasNumbers (out_action_bytes named) place }
+    ensures { out_action_bytes result ≡ core_call_at (out_action_bytes named.entry) place }
+{
+    match named {
         OutAction::Fetch(number) => OutAction::Fetch(number + place),
         OutAction::Release(_) if place > 0 => OutAction::Pick,
         other => other,

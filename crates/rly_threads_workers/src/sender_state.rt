@@ -1,21 +1,22 @@
-ghost use Rattle.std.specs.Prelude.{◌≡◌, ◌≤◌, length, option_map};
+ghost use Rattle.std.specs.Prelude.{◌≡◌, ◌≤◌, [], is_some, length, option_map};
 ghost use Rattle.rly_hop.specs.Payloads.{message_bytes, out_action_bytes, out_event_bytes};
 ghost use Rattle.rly_hop.specs.Sending.{sending_step};
 ghost use Rattle.rly_hop_pacing.specs.Rates.{first_bucket};
 ghost use Rattle.rly_link.specs.LinkHistory.{TellsMore};
 ghost use Rattle.rly_threads_workers.specs.SenderTurns.{is_progress, after_out_event, sender_packets, picks_after};
-ghost use Rattle.rly_threads_workers.specs.SenderTurns.{picks_beside, sent_on, waits_first};
+ghost use Rattle.rly_threads_workers.specs.SenderTurns.{again_numbers, picks_beside, sent_on, waits_first};
 ghost use Rattle.rly_threads_workers.specs.SenderState.{first_sender_state, let_out, lets_out, on_moment};
-ghost use Rattle.rly_threads_workers.specs.SenderState.{control_on_answer, control_on_named, control_on_release};
+ghost use Rattle.rly_threads_workers.specs.SenderState.{action_on, control_on_answer, control_on_named};
+ghost use Rattle.rly_threads_workers.specs.SenderState.{control_on_release, control_on_report, or_else, repeat_on};
 ghost use Rattle.rly_threads_workers.specs.SenderState.{rate_after, rate_after_one, send_room, set_back_if};
-ghost use Rattle.rly_threads_workers.specs.SenderState.{with_custody};
+ghost use Rattle.rly_threads_workers.specs.SenderState.{report_after, sender_on_hearing, with_custody, with_report};
 ghost use Rattle.rly_threads_workers.specs.Turns.{has_some};
 
 use crate::desk::Desk;
 use crate::ends::{Buffer, Ends};
 use rly_core::{Params, limits};
 use rly_hop::{Message, OutAction, OutEvent, Sending, longest_message};
-use rly_hop_pacing::{CongestionControl, Rate};
+use rly_hop_pacing::{CongestionControl, Numbers, Rate};
 use rly_link::{Link, MAX_PACKET, Turn, Waker};
 
 /// Maximum number of calls that a sending worker submits together.
@@ -32,6 +33,15 @@ pub(crate) struct SenderState {
     pub(crate) pace: CongestionControl,
     /// The token bucket of the hop's rate, if it has one.
     pub(crate) rate: Option<Rate>,
+    /// The Heard received last in this turn, until the turn's time.
+    pub(crate) report: Option<Report>,
+}
+
+/// The number that custody covers, and the bits of a Heard.
+#[derive(Clone, Copy)]
+pub(crate) struct Report {
+    pub(crate) last: u64,
+    pub(crate) bits: u64,
 }
 
 impl SenderState {
@@ -44,8 +54,33 @@ impl SenderState {
             core,
             moved: false,
             picks: 1,
-            pace: CongestionControl::new(resend, params.window),
+            pace: CongestionControl::new(resend, params.window, rate.is_some()),
             rate: full(rate, longest_message(params.payload) as u32),
+            report: None,
+        }
+    }
+
+    /// A message was received: the core gets it, and a Heard on the flight is kept until the turn's time.
+    pub(crate) fn hear(&mut self, message: Message<&[u8]>)
+        ensures { self.new ≡ sender_on_hearing self.old (Some (message_bytes message.entry)) }
+    {
+        self.keep_report(message);
+        let _nothing = self.core.step(OutEvent::Heard(message));
+    }
+
+    fn keep_report(&mut self, message: Message<&[u8]>)
+        ensures { self.new ≡ record self.old { report = report_after self.old (message_bytes message.entry) } }
+    {
+        if let Message::Heard {
+            from,
+            to,
+            last,
+            bits,
+        } = message
+        {
+            if self.core.reports_flight(from, to, last) {
+                self.report = Some(Report { last, bits });
+            }
         }
     }
 
@@ -63,8 +98,8 @@ impl SenderState {
         let opens = self.pace.contact(is_open);
         self.set_back(opens);
         self.hear_custody(at);
-        let is_due = self.pace.timeout(at);
-        self.set_back(is_due);
+        self.hear_report(at);
+        self.pace.moment(at);
     }
 
     /// Gives the core a Timeout, if `is_due`.
@@ -84,14 +119,34 @@ impl SenderState {
         note_release(&mut self.pace, named, at);
     }
 
+    /// The Heard that was kept.
+    fn hear_report(&mut self, at: u64)
+        ensures { self.new ≡ with_report self.old at }
+    {
+        note_report(&mut self.pace, self.report, at);
+        self.report = None;
+    }
+
     /// How many messages may be sent at a moment.
     pub(crate) fn room(&self, at: u64) -> u64
         ensures { result ≡ send_room self.now at }
     {
-        let room = self.pace.room();
+        let room = self.pace.room(at);
         match &self.rate {
             Some(rate) => room.min(rate.room(at)),
             None => room,
+        }
+    }
+
+    /// If no number is missing, adds the one that may be sent again in spare room.
+    pub(crate) fn add_spare(&self, room: u64, at: u64, again: &mut Numbers)
+        ensures { again.new.items ≡ again_numbers self.now.pace room at again.old.items }
+    {
+        if room == 0 || !again.is_empty() {
+            return;
+        }
+        if let Some(number) = self.pace.spare(at) {
+            again.push(number);
         }
     }
 
@@ -103,8 +158,8 @@ impl SenderState {
         self.picks.min(self.core.room_after(number).min(left))
     }
 
-    /// Passes an event to the core, and sends the message that it requests, if a contact is open and the rate
-    /// permits it.
+    /// Passes an event to the core, and sends the message that it requests, or the repeat of a number that it has sent,
+    /// if a contact is open and the rate permits it.
     pub(crate) fn tell<L: Link, K: Desk, T: Turn, W: Waker>(
         &mut self,
         buffer: &mut Buffer,
@@ -121,7 +176,7 @@ impl SenderState {
         let progress = is_progress(&event);
         self.picks = picks_after(self.picks, &event);
         note_answer(&mut self.pace, &event);
-        let named = self.core.step(event);
+        let named = action_on(&mut self.core, event);
         note_named(&mut self.pace, named, at);
         let sent = send_named(is_open, at, named, buffer, &mut self.rate, ends);
         self.moved |= progress || sent;
@@ -147,6 +202,15 @@ fn note_release(pace: &mut CongestionControl, named: Option<OutAction<&[u8]>>, a
     }
 }
 
+/// Reports a Heard to the congestion control, if there is one.
+fn note_report(pace: &mut CongestionControl, report: Option<Report>, at: u64)
+    ensures { pace.new ≡ control_on_report pace.old report at }
+{
+    if let Some(report) = report {
+        pace.on_heard(report.last, report.bits, at);
+    }
+}
+
 /// Reports to the congestion control the window, if it was answered.
 fn note_answer(pace: &mut CongestionControl, event: &OutEvent<&[u8]>)
     ensures { pace.new ≡ control_on_answer pace.old (out_event_bytes event.now) }
@@ -158,7 +222,34 @@ fn note_answer(pace: &mut CongestionControl, event: &OutEvent<&[u8]>)
     }
 }
 
-/// Reports to the congestion control the number that the core sends, if any.
+/// Passes an event to the core. Returns the action that it requests, or the repeat of a number that it has sent, if the
+/// event is the answer to a Fetch of it.
+fn action_on<'a>(core: &mut Sending, event: OutEvent<&'a [u8]>) -> Option<OutAction<&'a [u8]>>
+    ensures core { core.new ≡ (sending_step core.old (out_event_bytes event.entry)).0 }
+    ensures action { option_map out_action_bytes result ≡ action_on core.old (out_event_bytes event.entry) }
+{
+    let repeat = repeat_on(core, &event);
+    match core.step(event) {
+        None => repeat,
+        named => named,
+    }
+}
+
+/// The repeat of a number that the core has sent, if an event is the answer to a Fetch of it.
+fn repeat_on<'a>(core: &Sending, event: &OutEvent<&'a [u8]>) -> Option<OutAction<&'a [u8]>>
+    ensures { option_map out_action_bytes result ≡ repeat_on core.now (out_event_bytes event.now) }
+{
+    match event {
+        OutEvent::Fetched {
+            number,
+            limit,
+            payload,
+        } => core.repeat(*number, *limit, payload),
+        _ => None,
+    }
+}
+
+/// Reports to the congestion control the number that is sent, if any.
 fn note_named(pace: &mut CongestionControl, named: Option<OutAction<&[u8]>>, at: u64)
     ensures { pace.new ≡ control_on_named pace.old (option_map out_action_bytes named.entry) at }
 {

@@ -42,6 +42,7 @@ abbrev pub IsSafe : List (Numbered (List ℕ)) → ℕ → Message (List ℕ) �
 IsSafe given kept (message.Data from to number limit payload) = IsUnder given number limit payload
 IsSafe given kept (message.Custody from to last) = last ≤ kept
 IsSafe given kept (message.Refused from to number refusal) = Unit {0}
+IsSafe given kept (message.Heard from to last bits) = Unit {0}
 
 -- a request of the sending core: it releases only taken datagrams, and fetches from its hop
 abbrev pub IsSafeAsk : HopId → ℕ → Ask → Type 0
@@ -162,6 +163,8 @@ sends_safely given kept hop moment s
     (Heard (message.Data from to number limit payload)) acked safe = silent given kept hop moment s acked
 sends_safely given kept hop moment s
     (Heard (message.Refused from to number refusal)) acked safe = silent given kept hop moment s acked
+sends_safely given kept hop moment s
+    (Heard (message.Heard from to last bits)) acked safe = silent given kept hop moment s acked
 sends_safely given kept hop moment s Timeout acked safe = silent given kept hop moment
     (record s { cursor = s.first }) acked
 sends_safely given kept hop moment s (Refused refusal) acked safe =
@@ -187,6 +190,7 @@ safe_later given more kept rest p below
     (message.Data from to number limit payload) safe = under_later given more number limit payload p safe
 safe_later given more kept rest p below (message.Custody from to last) safe = omega (arith, safe, below)
 safe_later given more kept rest p below (message.Refused from to number refusal) safe = tt
+safe_later given more kept rest p below (message.Heard from to last bits) safe = tt
 
 pub event_later : (given more : List (Numbered (List ℕ))) (kept rest : ℕ) → IsPrefix given more → kept ≤ rest
     → (event : OutEvent (List ℕ)) → IsSafeEvent given kept event → IsSafeEvent more rest event
@@ -302,6 +306,7 @@ hears_safely given kept peer hop stamp r (message.Data from to number limit payl
 hears_safely given kept peer hop stamp r (message.Custody from to last) safe = deaf given kept peer hop stamp r
 hears_safely given kept peer hop stamp r
     (message.Refused from to number refusal) safe = deaf given kept peer hop stamp r
+hears_safely given kept peer hop stamp r (message.Heard from to last bits) safe = deaf given kept peer hop stamp r
 
 -- its message on the reply
 pub reply_safe : (given : List (Numbered (List ℕ))) (kept : ℕ) (r : Receiver) (number : ℕ) (a : TakeAnswer)

@@ -12,7 +12,7 @@ use Rattle.rly_core.specs.declared.ids.PeerId.{PeerId}
 use Rattle.rly_core.specs.declared.params.Params.{Params}
 use Rattle.rly_core.specs.declared.refusal.Refusal.TheVariants.{Gap}
 use Rattle.rly_hop.specs.declared.message.Message.{Message}
-use Rattle.rly_hop.specs.declared.message.Message.TheVariants.{Data, Custody, Refused}
+use Rattle.rly_hop.specs.declared.message.Message.TheVariants.{Data, Custody, Refused, Heard}
 use Rattle.rly_hop.specs.declared.receiving.event.InAction.{InAction}
 use Rattle.rly_hop.specs.declared.receiving.event.InAction.TheVariants as in_action
 use Rattle.rly_hop.specs.declared.message.StationId.{StationId}
@@ -60,6 +60,7 @@ pub heard_names : (s : Sender) (m : Message (List ℕ)) → (sending_step s (eve
 heard_names s (Data from to number limit payload) = refl
 heard_names s (Custody from to last) = refl
 heard_names s (Refused from to number refusal) = refl
+heard_names s (Heard from to last bits) = refl
 
 -- two relays by their parts
 abbrev pub shown : Params → Params → End → Sender → End → List Receiver → List (Message (List ℕ)) → PairWorld
@@ -237,6 +238,7 @@ take_or_none r (Data from to number limit payload) =
     (λ (result : ReceivingResult). IsTakeOrNone result.1) (λ _. tt) (λ _. tt)
 take_or_none r (Custody from to last) = tt
 take_or_none r (Refused from to number refusal) = tt
+take_or_none r (Heard from to last bits) = tt
 
 none_left : (named : Option (InAction (List ℕ))) → IsTakeOrNone named → ((number limit : ℕ) (payload : List ℕ) → named ≡ Some (in_action.Take number limit payload) → ⊥)
     → named ≡ None
@@ -265,6 +267,7 @@ forgets r (Data from to number limit payload) =
     (λ (result : ReceivingResult). record result.0 { pending = None } ≡ record r { pending = None }) (λ _. refl) (λ _. refl)
 forgets r (Custody from to last) = refl
 forgets r (Refused from to number refusal) = refl
+forgets r (Heard from to last bits) = refl
 
 pub forgotten_by_lower : (receivers : List Receiver) (core : ℕ) (r next last : Receiver) (m : Message (List ℕ)) (taken : InAction (List ℕ))
     → slice_get receivers core ≡ Some r → next ≡ (receiving_step r (in_event.Heard m)).0 → Some taken ≡ (receiving_step r (in_event.Heard m)).1

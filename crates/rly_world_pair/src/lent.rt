@@ -45,6 +45,17 @@ pub(crate) fn borrowed_message<'a>(message: &'a Message<Payload>) -> Message<&'a
             number: *number,
             refusal: *refusal,
         },
+        Message::Heard {
+            from,
+            to,
+            last,
+            bits,
+        } => Message::Heard {
+            from: *from,
+            to: *to,
+            last: *last,
+            bits: *bits,
+        },
     }
 }
 
@@ -78,6 +89,17 @@ pub(crate) fn owned_message(message: Message<&[u8]>, payload: Payload) -> Messag
             number,
             refusal,
         },
+        Message::Heard {
+            from,
+            to,
+            last,
+            bits,
+        } => Message::Heard {
+            from,
+            to,
+            last,
+            bits,
+        },
     }
 }
 
@@ -89,7 +111,9 @@ pub(crate) fn payload_of(alloc: Global, message: &Message<Payload>) -> Result<Pa
 {
     match message {
         Message::Data { payload, .. } => Payload::copy_of(alloc, payload.as_slice()),
-        Message::Custody { .. } | Message::Refused { .. } => Ok(Payload::new(Vec::new(alloc))),
+        Message::Custody { .. } | Message::Refused { .. } | Message::Heard { .. } => {
+            Ok(Payload::new(Vec::new(alloc)))
+        }
     }
 }
 

@@ -1,6 +1,6 @@
 //! The worked messages of docs/PROTOCOL.md, and bytes that are no message.
 use rly_core::Refusal;
-use rly_hop::{Message, StationId, longest_message, read_message, write_message};
+use rly_hop::{Message, StationId, longest_message, marks, read_message, with_mark, write_message};
 use std::process::Abort;
 
 /// Data from station 3 to 7, number 1, payload `000c41`.
@@ -29,6 +29,18 @@ const CUSTODY: [u8; 16] = [
 /// Refused as Full, in place of its custody.
 const FULL: [u8; 17] = [
     0x52, 0x4c, 0x01, 0x03, 0x00, 0x07, 0x00, 0x03, 0, 0, 0, 0, 0, 0, 0, 1, 0x06,
+];
+
+/// Number 1 is kept, and 3 and 4 were heard after it.
+const HEARD: [u8; 24] = [
+    0x52, 0x4c, 0x01, 0x05, 0x00, 0x07, 0x00, 0x03, 0, 0, 0, 0, 0, 0, 0, 1, 0x60, 0, 0, 0, 0, 0, 0,
+    0,
+];
+
+/// Each byte of its number and of its bits is another one.
+const HEARD_OF_MANY: [u8; 24] = [
+    0x52, 0x4c, 0x01, 0x05, 0x01, 0x02, 0x03, 0x04, 0xf1, 0xf2, 0xf3, 0xf4, 0xf5, 0xf6, 0xf7, 0xf8,
+    0x91, 0x82, 0x73, 0x64, 0x55, 0x46, 0x37, 0x28,
 ];
 
 const DATA_MESSAGE: Message<&[u8]> = Message::Data {
@@ -68,13 +80,29 @@ const FULL_MESSAGE: Message<&[u8]> = Message::Refused {
     refusal: 6,
 };
 
+const HEARD_MESSAGE: Message<&[u8]> = Message::Heard {
+    from: StationId(7),
+    to: StationId(3),
+    last: 1,
+    bits: 0x6000_0000_0000_0000,
+};
+
+const HEARD_OF_MANY_MESSAGE: Message<&[u8]> = Message::Heard {
+    from: StationId(0x0102),
+    to: StationId(0x0304),
+    last: 0xf1f2_f3f4_f5f6_f7f8,
+    bits: 0x9182_7364_5546_3728,
+};
+
 /// The worked messages.
-const WORKED: [(&[u8], Message<&[u8]>); 5] = [
+const WORKED: [(&[u8], Message<&[u8]>); 7] = [
     (&DATA, DATA_MESSAGE),
     (&LIMITED, LIMITED_MESSAGE),
     (&MOST_LIMITED, MOST_LIMITED_MESSAGE),
     (&CUSTODY, CUSTODY_MESSAGE),
     (&FULL, FULL_MESSAGE),
+    (&HEARD, HEARD_MESSAGE),
+    (&HEARD_OF_MANY, HEARD_OF_MANY_MESSAGE),
 ];
 
 /// These bytes are decoded as this message, which is encoded as these bytes.
@@ -110,7 +138,7 @@ fn expect_refused<R: Abort>(rt: &R, row: u64, (bytes, length, refusal): &Refused
 }
 
 /// Faults of the header.
-const HEADERS: [Refused; 11] = [
+const HEADERS: [Refused; 14] = [
     (&[], 0, Refusal::Short),
     (
         &[0x52, 0x4c, 0x01, 0x01, 0x00, 0x03, 0x00],
@@ -122,10 +150,13 @@ const HEADERS: [Refused; 11] = [
     (&[0x52, 0x4c, 0x02, 0x07, 0, 0, 0, 0], 8, Refusal::Version),
     (&[0x52, 0x4c, 0x01, 0x07, 0, 0, 0, 0], 8, Refusal::Kind),
     (&[0x52, 0x4c, 0x01, 0x00, 0, 3, 0, 7], 8, Refusal::Kind),
-    (&[0x52, 0x4c, 0x01, 0x05, 0, 3, 0, 7], 8, Refusal::Kind),
+    (&[0x52, 0x4c, 0x01, 0x06, 0, 3, 0, 7], 8, Refusal::Kind),
+    (&[0x52, 0x4c, 0x01, 0xff, 0, 3, 0, 7], 8, Refusal::Kind),
     (&[0x52, 0x4c, 0x01, 0x04, 0, 0, 0, 7], 8, Refusal::Station),
     (&[0x52, 0x4c, 0x01, 0x02, 0, 0, 0, 7], 8, Refusal::Station),
     (&[0x52, 0x4c, 0x01, 0x02, 0, 3, 0, 0], 8, Refusal::Station),
+    (&[0x52, 0x4c, 0x01, 0x05, 0, 0, 0, 7], 8, Refusal::Station),
+    (&[0x52, 0x4c, 0x01, 0x05, 0, 3, 0, 0], 8, Refusal::Station),
 ];
 
 #[test]
@@ -164,13 +195,18 @@ fn changes_of_the_worked_data(rt: HostRuntime) {
     expect_changes(&rt);
 }
 
-/// A custody, a refusal and a Data with one byte too many.
+/// A custody, a refusal, a Heard and a Data with one byte too many.
 const CUSTODY_AND_MORE: [u8; 17] = [
     0x52, 0x4c, 0x01, 0x02, 0x00, 0x07, 0x00, 0x03, 0, 0, 0, 0, 0, 0, 0, 1, 0,
 ];
 
 const FULL_AND_MORE: [u8; 18] = [
     0x52, 0x4c, 0x01, 0x03, 0x00, 0x07, 0x00, 0x03, 0, 0, 0, 0, 0, 0, 0, 1, 6, 0,
+];
+
+const HEARD_AND_MORE: [u8; 25] = [
+    0x52, 0x4c, 0x01, 0x05, 0x00, 0x07, 0x00, 0x03, 0, 0, 0, 0, 0, 0, 0, 1, 0x60, 0, 0, 0, 0, 0, 0,
+    0, 0,
 ];
 
 const DATA_AND_MORE: [u8; 22] = [
@@ -223,11 +259,14 @@ const LIMIT_OF_NONE_OF_8193: [u8; 26] = [
 
 /// Faults of the length. A limit of 0 is checked once the part before the payload is whole, and before the
 /// payload's length.
-const LENGTHS: [Refused; 19] = [
+const LENGTHS: [Refused; 22] = [
     (&CUSTODY, 15, Refusal::Short),
     (&CUSTODY_AND_MORE, 17, Refusal::Long),
     (&FULL, 16, Refusal::Short),
     (&FULL_AND_MORE, 18, Refusal::Long),
+    (&HEARD, 8, Refusal::Short),
+    (&HEARD, 23, Refusal::Short),
+    (&HEARD_AND_MORE, 25, Refusal::Long),
     (&DATA_AND_MORE, 22, Refusal::Long),
     (&DATA_OF_1201, 21, Refusal::Short),
     (&DATA_OF_8192, 21, Refusal::Short),
@@ -263,6 +302,7 @@ fn expect_cut(rt: &impl Abort, message: &[u8]) {
 fn messages_that_are_cut_are_too_short(rt: HostRuntime) {
     expect_cut(&rt, &DATA);
     expect_cut(&rt, &LIMITED);
+    expect_cut(&rt, &HEARD);
 }
 
 /// A Data of the longest payload with this limit has this length. It is written and read; without its last byte it
@@ -320,21 +360,80 @@ fn what_has_no_spelling_is_not_written(rt: HostRuntime) {
     }
 }
 
-/// Checks that a message to no station isn't written.
-fn expect_no_station<R: Abort>(rt: &R) {
+/// Checks that a message from or to no station isn't written.
+fn expect_no_station<R: Abort>(rt: &R, message: Message<&[u8]>) {
     let mut out = [0xee; 8_300];
-    let to_none = Message::Custody {
-        from: StationId(7),
-        to: StationId(0),
-        last: 1,
-    };
-    expect!(*rt; write_message(to_none, &mut out) == Err(Refusal::Station));
+    expect!(*rt; write_message(message, &mut out) == Err(Refusal::Station));
     expect!(*rt; out[0] == 0xee);
 }
 
 #[test]
 fn custody_for_no_station_is_not_written(rt: HostRuntime) {
-    expect_no_station(&rt);
+    let to_none = Message::Custody {
+        from: StationId(7),
+        to: StationId(0),
+        last: 1,
+    };
+    expect_no_station(&rt, to_none);
+}
+
+/// A Heard between these stations.
+fn heard_between(from: u16, to: u16) -> Message<&'static [u8]> {
+    Message::Heard {
+        from: StationId(from),
+        to: StationId(to),
+        last: 1,
+        bits: 0x6000_0000_0000_0000,
+    }
+}
+
+#[test]
+fn heard_of_no_station_is_not_written(rt: HostRuntime) {
+    expect_no_station(&rt, heard_between(0, 3));
+    expect_no_station(&rt, heard_between(7, 0));
+}
+
+/// Bits, and a place that is set in them. The first place has the greatest bit, the last one the least.
+const SET: [(u64, u64); 5] = [
+    (0x8000_0000_0000_0000, 0),
+    (0x6000_0000_0000_0000, 1),
+    (0x6000_0000_0000_0000, 2),
+    (0x0000_0000_0000_0002, 62),
+    (0x0000_0000_0000_0001, 63),
+];
+
+/// Bits, and a place that isn't set in them.
+const UNSET: [(u64, u64); 6] = [
+    (0x7fff_ffff_ffff_ffff, 0),
+    (0x6000_0000_0000_0000, 0),
+    (0x6000_0000_0000_0000, 3),
+    (0xffff_ffff_ffff_fffe, 63),
+    (0xffff_ffff_ffff_ffff, 64),
+    (0xffff_ffff_ffff_ffff, 0xffff_ffff_ffff_ffff),
+];
+
+/// Checks whether these places are set.
+fn expect_marks<R: Abort>(rt: &R, rows: &[(u64, u64)], is_set: bool) {
+    for (bits, place) in rows {
+        expect!(*rt; marks(*bits, *place) == is_set, *place);
+    }
+}
+
+#[test]
+fn the_first_number_has_the_greatest_bit(rt: HostRuntime) {
+    expect_marks(&rt, &SET, true);
+    expect_marks(&rt, &UNSET, false);
+}
+
+#[test]
+fn bits_are_set_by_place(rt: HostRuntime) {
+    let three = with_mark(0, 1);
+    expect!(rt; three == 0x4000_0000_0000_0000);
+    expect!(rt; with_mark(three, 2) == 0x6000_0000_0000_0000);
+    expect!(rt; with_mark(three, 1) == three);
+    expect!(rt; with_mark(0, 0) == 0x8000_0000_0000_0000);
+    expect!(rt; with_mark(0, 63) == 1);
+    expect!(rt; with_mark(three, 64) == three);
 }
 
 /// The buffer size for messages, by the longest payload of a spool: 23 bytes before the payload, and no payload has

@@ -121,6 +121,15 @@ const SCRIPTS: [Script; 6] = [
                 }),
                 None,
             ),
+            (
+                InEvent::Heard(Message::Heard {
+                    from: PEER,
+                    to: OWN,
+                    last: 5,
+                    bits: 0x6000_0000_0000_0000,
+                }),
+                None,
+            ),
             (data!(6), take!(6)),
         ],
     },

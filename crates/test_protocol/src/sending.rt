@@ -1,5 +1,5 @@
 //! The rows of the sending core's table.
-use crate::expect::expect_row;
+use crate::expect::{expect, expect_row};
 use rly_core::Refusal;
 use rly_hop::{Message, OutAction, OutEvent, Sending, StationId};
 use std::process::Abort;
@@ -329,6 +329,15 @@ const SCRIPTS: [Script; 24] = [
                 }),
                 None,
             ),
+            (
+                OutEvent::Heard(Message::Heard {
+                    from: HOP,
+                    to: OWN,
+                    last: 3,
+                    bits: 0x8000_0000_0000_0000,
+                }),
+                None,
+            ),
             (OPEN, Some(OutAction::Fetch(4))),
         ],
     },
@@ -468,4 +477,89 @@ fn acknowledges<R: Abort>(rt: &R) {
 #[test]
 fn what_is_acknowledged_waits_for_its_release(rt: HostRuntime) {
     acknowledges(&rt);
+}
+
+/// A number, the limit with which it is to be sent again, and the action that does so.
+type Repeat = (u64, u64, Option<OutAction<&'static [u8]>>);
+
+/// Numbers to be sent again after these events, and the action of the turn after them.
+struct Repeats {
+    shows: &'static str,
+    events: &'static [OutEvent<&'static [u8]>],
+    rows: &'static [Repeat],
+    turn: OutAction<&'static [u8]>,
+}
+
+/// On a core whose flight is from 3 to 6.
+const REPEATS: [Repeats; 6] = [
+    Repeats {
+        shows: "below the cursor a number is sent again, and the cursor stays",
+        events: &[fetched!(3, 1), fetched!(4)],
+        rows: &[
+            (3, 1, data!(3, 1)),
+            (4, 0, data!(4)),
+            (4, GREATEST, data!(4, GREATEST)),
+            (3, 1, data!(3, 1)),
+        ],
+        turn: OutAction::Fetch(5),
+    },
+    Repeats {
+        shows: "from the cursor on none is sent again",
+        events: &[fetched!(3), fetched!(4)],
+        rows: &[
+            (5, 0, None),
+            (6, 0, None),
+            (7, 0, None),
+            (u64::MAX, 0, None),
+        ],
+        turn: OutAction::Fetch(5),
+    },
+    Repeats {
+        shows: "below the flight none is sent again",
+        events: &[fetched!(3), fetched!(4)],
+        rows: &[(2, 0, None), (0, 0, None)],
+        turn: OutAction::Fetch(5),
+    },
+    Repeats {
+        shows: "what was released is not sent again",
+        events: &[fetched!(3), fetched!(4), custody!(3), OutEvent::Released],
+        rows: &[(3, 0, None), (4, 0, data!(4))],
+        turn: OutAction::Fetch(5),
+    },
+    Repeats {
+        shows: "after a timeout only what was sent since is sent again",
+        events: &[fetched!(3), fetched!(4), OutEvent::Timeout, fetched!(3)],
+        rows: &[(3, 0, data!(3)), (4, 0, None)],
+        turn: OutAction::Fetch(4),
+    },
+    Repeats {
+        shows: "a core that is not ready sends none again",
+        events: &[fetched!(3), fetched!(4), OutEvent::Refused(Refusal::Broken)],
+        rows: &[(3, 0, None), (4, 0, None)],
+        turn: OutAction::AskWindow,
+    },
+];
+
+/// Checks what a core sends again.
+fn sends_again<R: Abort>(rt: &R, repeats: &Repeats) {
+    let mut core = core_of(8, Some((3, 7)));
+    for event in repeats.events {
+        let _ = core.step(*event);
+    }
+    for (index, (number, limit, action)) in repeats.rows.iter().enumerate() {
+        let again = core.repeat(*number, *limit, PAYLOAD);
+        expect_row(rt, again == *action, repeats.shows, index as u64);
+    }
+    expect(rt, core.step(OPEN) == Some(repeats.turn), repeats.shows);
+}
+
+fn sends_each_again(rt: &impl Abort, each: &[Repeats]) {
+    for repeats in each {
+        sends_again(rt, repeats);
+    }
+}
+
+#[test]
+fn what_was_sent_is_sent_again(rt: HostRuntime) {
+    sends_each_again(&rt, &REPEATS);
 }

@@ -169,7 +169,7 @@ fn custody_in(last: u64, buffer: &mut [u8]) -> Option<usize>
 }
 
 /// Copies a packet to the front of a buffer that has room for it.
-fn copied(packet: &[u8], buffer: &mut [u8]) -> Option<usize>
+pub(super) fn copied(packet: &[u8], buffer: &mut [u8]) -> Option<usize>
     ensures bound { IfSome result (λ count. count ≤ length buffer.new) }
 {
     let length = packet.len();
@@ -202,17 +202,19 @@ fn plan<R: Abort>(rt: &R, alloc: Global) -> Plan {
 }
 
 /// A spool's parameters with this window.
-fn with_window(window: u64) -> Params {
+pub(super) fn with_window(window: u64) -> Params {
     Params {
         window,
         ..Params::DEFAULT
     }
 }
 
-/// A spool with this many datagrams for hop 1, and a window of 64.
-fn queue_of<R: Abort>(rt: &R, alloc: Global, datagrams: u64) -> Machine<Payload> {
+/// A spool with this many datagrams for hop 1, and a window of 64, which drops none for its time in the queue.
+pub(super) fn queue_of<R: Abort>(rt: &R, alloc: Global, datagrams: u64) -> Machine<Payload> {
     let params = Params {
         window: 64,
+        target: 3_600_000_000,
+        interval: 3_600_000_000,
         ..Params::DEFAULT
     };
     let mut machine = Machine::new(alloc, params).expect(rt, "memory");
@@ -222,7 +224,12 @@ fn queue_of<R: Abort>(rt: &R, alloc: Global, datagrams: u64) -> Machine<Payload>
     machine
 }
 
-/// Runs the sender of hop 1, whose `resend` is 40 ms, for 1,500 turns.
+/// 1,500 turns, or six round trips: in the first ten datagrams go out, in the next two 20 each, and then 40.
+fn turns_of(way: &Way) -> u64 {
+    way.turns.saturating_mul(6).max(1_500)
+}
+
+/// Runs the sender of hop 1, whose `resend` is 40 ms.
 fn hand_over<R: Abort + Wait>(
     rt: &R,
     alloc: Global,
@@ -233,7 +240,7 @@ fn hand_over<R: Abort + Wait>(
     let mut ends = Ends {
         link: Far::new(alloc, way.turns, lost, stray),
         desk: MemDesk::new(alloc, queue_of(rt, alloc, way.datagrams)),
-        turn: MemTurn::new(1_000, way.step, 1_500),
+        turn: MemTurn::new(1_000, way.step, turns_of(way)),
         waker: MemWaker::new(),
     };
     let plan = plan(rt, alloc);
@@ -282,7 +289,7 @@ fn expect_numbers<R: Abort + Wait>(rt: &R, alloc: Global, way: &Way, numbers: &[
 }
 
 /// The numbers from 1 on.
-fn up_to<R: Abort>(rt: &R, alloc: Global, last: u64) -> Vec<u64> {
+pub(super) fn up_to<R: Abort>(rt: &R, alloc: Global, last: u64) -> Vec<u64> {
     let mut numbers = Vec::new(alloc);
     for number in 1..=last {
         numbers.push(number).expect(rt, "memory");
@@ -340,8 +347,9 @@ fn a_long_way_is_measured(rt: HostRuntime) {
     expect_numbers(&rt, rt.alloc(), &of_turns(150, 10_000, 5, 1), &MEASURED);
 }
 
-/// The fourth Data is lost. The three in flight are sent again, once, one by one: station 9 takes only in order.
-const AFTER_A_LOSS: [u64; 11] = [1, 2, 3, 4, 5, 6, 4, 5, 6, 7, 8];
+/// The fourth Data is lost. The three in flight are sent again, once, one by one: station 9 takes only in order. The
+/// seventh is the one new number that goes out meanwhile, and so it follows the sixth once more.
+const AFTER_A_LOSS: [u64; 12] = [1, 2, 3, 4, 5, 6, 4, 5, 7, 6, 7, 8];
 
 /// After a loss the flight is sent again, once.
 #[test]

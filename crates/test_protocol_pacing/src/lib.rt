@@ -1,6 +1,7 @@
-//! Tests of `rly_hop_pacing` and of a sender over a link in memory: timers, windows and rates that
-//! were computed by hand from RFC 6298, RFC 5681 and RFC 6928 (docs/PROTOCOL.md, "The pace of a
-//! hop"). A failure means that a hop is overrun, or waits too long. Tests only; no crate calls it.
+//! Tests of `rly_hop_pacing` and of a sender over a link in memory: repeats, timers, windows and rates
+//! that were computed by hand from RFC 6298, RFC 6675, RFC 8985 and RFC 6928 (docs/PROTOCOL.md, "The
+//! pace of a hop"). A failure means that a hop is overrun, or waits too long. Tests only; no crate
+//! calls it.
 #![tactic(auto)]
 
 /// Like `assert!`, as one call: the prover then sees one path instead of two. A number after the condition names a
@@ -19,6 +20,8 @@ macro_rules! expect {
 mod copies;
 #[cfg(test)]
 mod expect;
+#[cfg(test)]
+mod gaps;
 #[cfg(test)]
 mod paces;
 #[cfg(test)]

@@ -62,6 +62,8 @@ const ROWS: [Failing; 4] = [
     },
     // The neighbour acknowledges the datagram in receives 40 and 56, counted from 0. It is sent three times, as
     // without packets. The first custody is received in turn 41, by call 44, and the second in turn 56, by call 60.
+    // In turn 41 the datagram was sent last 800 ms ago, less than 7/8 of a round trip, which is a second at first. So
+    // an earlier sending was heard, and the round goes on.
     // Each of these turns has one more receive, which finds nothing. The sender releases, and asks for the next
     // datagram with the release and in each turn after it, without success. The receives after the window, the pick
     // and the release don't wait.
@@ -75,7 +77,9 @@ const ROWS: [Failing; 4] = [
         counts: [0, 0, 1],
         sends: &[4, 15, 36],
         hears: &[
-            // The first custody isn't received: the datagram is released in turn 57.
+            // The first custody isn't received: the datagram is released in turn 57, with a Pick beside it, and each
+            // turn after it has one. The round began with the Timeout of turn 33 and took 24 turns. One may go out in
+            // that time, and the last did so in turn 33.
             (&[44], [14, 3, 61, 68]),
             // The second custody isn't received: then its turn has no other receive.
             (&[60], [30, 3, 61, 68]),

@@ -2,7 +2,10 @@
 //!
 //! The expected rows follow from docs/PROTOCOL.md, "The sending core".
 
-use crate::script::{ANY, OF_9, ONE, Row, SENDER, Script, TO_9, expect_script, expect_scripts};
+use crate::script::{
+    ANY, HEARD_9, HEARD_10, HEARD_AFTER_1, OF_9, ONE, Row, SENDER, Script, TO_9, expect_script,
+    expect_scripts,
+};
 use crate::workers::{Packets, Spool};
 use rly_core::{Params, Refusal};
 use std::alloc::Global;
@@ -137,11 +140,12 @@ const BATCHES: [Case<'static>; 5] = [
             (40, [21, 10, ANY, ANY], [60, 10, 0]),
         ],
     ),
-    // The eleventh turn receives the custody of the tenth, which grows the window from ten to 20. Its Release and
-    // 11 Picks are submitted together, since one more Pick may be submitted together after each that found a
-    // datagram. Then the 11 are fetched, and 9 more are picked and fetched.
+    // The eleventh turn receives the custody of the tenth, two turns after it was sent, and eight turns after the first
+    // was. Ten were heard in these eight turns: twenty may be on the way, and in each turn 20 / 8 of them go out. After
+    // two turns five do: five Picks are submitted beside the Release, and from then on five Picks and their Fetches
+    // alternate, up to twenty.
     (
-        "what may be on its way grows by one for each number that is covered",
+        "twice as many as were covered may be on the way after a round trip, and go out one after the other",
         [70, 64, 1_000, 1, 0, 0],
         &[(10, OF_9, &[10])],
         &[(
@@ -154,27 +158,31 @@ const BATCHES: [Case<'static>; 5] = [
         )],
         &[
             (10, [21, 10, ANY, ANY], [60, 10, 0]),
-            (11, [33, 10, ANY, ANY], [49, 11, 10]),
-            (12, [44, 21, ANY, ANY], [49, 11, 10]),
-            (13, [53, 21, ANY, ANY], [40, 20, 10]),
-            (14, [62, 30, ANY, ANY], [40, 20, 10]),
+            (11, [27, 10, ANY, ANY], [55, 5, 10]),
+            (12, [32, 15, ANY, ANY], [55, 5, 10]),
+            (13, [37, 15, ANY, ANY], [50, 10, 10]),
+            (14, [42, 20, ANY, ANY], [50, 10, 10]),
+            (17, [57, 25, ANY, ANY], [40, 20, 10]),
+            (18, [62, 30, ANY, ANY], [40, 20, 10]),
             (40, [62, 30, ANY, ANY], [40, 20, 10]),
         ],
     ),
-    // Picks and the Fetches of the picked datagrams alternate: 1, 2 and 1 of each. The eighth turn receives the
-    // custody of the third. Its Release and three Picks are submitted together, and the ninth turn fetches the
+    // Picks and the Fetches of the picked datagrams alternate: 1, 2 and 1 of each. The 20th turn receives the
+    // custody of the third. The first was sent 17 turns before it and the fourth 13, in which 4 * 13 / 17, that are
+    // three, may go out. Its Release and three Picks are submitted together, and the next turn fetches the
     // picked datagrams. Then the core can only receive.
     (
         "what may be in flight after a release is picked beside it, in one round",
         [10, 4, 1_000, 1, 0, 0],
-        &[(7, OF_9, &[3])],
+        &[(19, OF_9, &[3])],
         &[(0, TO_9, &[1, 2, 3, 4, 5, 6, 7])],
         &[
             (6, [8, 3, ANY, ANY], [6, 4, 0]),
             (7, [9, 4, ANY, ANY], [6, 4, 0]),
-            (8, [13, 4, ANY, ANY], [3, 4, 3]),
-            (9, [16, 7, ANY, ANY], [3, 4, 3]),
-            (10, [16, 7, ANY, ANY], [3, 4, 3]),
+            (19, [9, 4, ANY, ANY], [6, 4, 0]),
+            (20, [13, 4, ANY, ANY], [3, 4, 3]),
+            (21, [16, 7, ANY, ANY], [3, 4, 3]),
+            (22, [16, 7, ANY, ANY], [3, 4, 3]),
         ],
     ),
     // Of the two Picks of the fourth turn one finds nothing, so that one is submitted per turn from there on. The
@@ -218,36 +226,40 @@ fn a_window_goes_out_in_batches(rt: HostRuntime) {
 
 const AGAIN: [Case<'static>; 2] = [
     // The third turn sends the first of seven datagrams, and the seventh the last four. A second after the third
-    // turn the first is sent again, alone. Its custody is received two turns later, and in the turn after that the
-    // second is sent. Two seconds after the custody it is sent again: a number that was sent twice yields no
-    // sample.
+    // turn the first is sent again, alone. Its custody is received two turns later. Nothing was heard before that
+    // timeout, so the second is sent again by a timeout too, two seconds later: custody of a number that was sent
+    // twice yields no sample, and leaves the wait doubled. From then on each follows the custody of the one before.
     (
         "after a timeout what was on its way goes out again one by one",
         [7, 7, 1_000, 10_000, 0, 0],
-        &[(104, OF_9, &[1])],
-        &[(0, TO_9, &[1, 2, 3, 4, 5, 6, 7, 1, 2, 2])],
+        &[(104, OF_9, &[1]), (202, OF_9, &[2])],
+        &[(0, TO_9, &[1, 2, 3, 4, 5, 6, 7, 1, 2, 3])],
         &[
             (7, [ANY, 7, ANY, ANY], [0, 7, 0]),
             (102, [ANY, 7, ANY, ANY], [0, 7, 0]),
             (103, [ANY, 8, ANY, ANY], [0, 7, 0]),
             (104, [ANY, 8, ANY, ANY], [0, 7, 0]),
             (105, [ANY, 8, ANY, ANY], [0, 6, 1]),
-            (106, [ANY, 9, ANY, ANY], [0, 6, 1]),
-            (304, [ANY, 9, ANY, ANY], [0, 6, 1]),
-            (305, [ANY, 10, ANY, ANY], [0, 6, 1]),
+            (304, [ANY, 8, ANY, ANY], [0, 6, 1]),
+            (305, [ANY, 9, ANY, ANY], [0, 6, 1]),
+            (306, [ANY, 9, ANY, ANY], [0, 6, 1]),
+            (307, [ANY, 10, ANY, ANY], [0, 5, 2]),
         ],
     ),
-    // The 23rd turn receives the first one's custody, a second after it was sent. From this the wait is 1 s + 4 *
-    // 0.5 s = 3 s, which is 60 turns.
+    // The 23rd turn receives the first one's custody, a second after it was sent. From this the round trip is 1 s and the
+    // wait 1 s + 4 * 0.5 s = 3 s, which is 60 turns. Two round trips after the custody, in which nothing was heard, the
+    // last number goes out again as a probe, and by a timeout 60 turns after that.
     (
-        "a custody that is heard when a timeout is due is released, and what is still in flight isn't sent before the next one",
+        "a custody that is heard when a timeout is due is released, and what is still in flight isn't sent before the probe",
         [2, 2, 1_000, 50_000, 0, 0],
         &[(22, OF_9, &[1])],
-        &[(0, TO_9, &[1, 2, 2])],
+        &[(0, TO_9, &[1, 2, 2, 2])],
         &[
             (23, [ANY, 2, ANY, ANY], [0, 1, 1]),
-            (82, [ANY, 2, ANY, ANY], [0, 1, 1]),
-            (83, [ANY, 3, ANY, ANY], [0, 1, 1]),
+            (62, [ANY, 2, ANY, ANY], [0, 1, 1]),
+            (63, [ANY, 3, ANY, ANY], [0, 1, 1]),
+            (122, [ANY, 3, ANY, ANY], [0, 1, 1]),
+            (123, [ANY, 4, ANY, ANY], [0, 1, 1]),
         ],
     ),
 ];
@@ -363,12 +375,16 @@ fn data_is_sent_again(rt: HostRuntime) {
     expect_senders(&rt, rt.alloc(), &TIMEOUTS);
 }
 
-/// Packets that are no message for the sender, and a custody of a number not in flight. One comes in each turn, by
-/// the first of its two receives.
-const STRAYS: [&[Packets<'static>]; 3] = [
+/// Packets that are no message for the sender, a custody of a number not in flight, a Heard from above the flight, one
+/// of another station, and one of numbers that aren't in flight. One comes in each turn, by the first of its two
+/// receives.
+const STRAYS: [&[Packets<'static>]; 6] = [
     &[(0, b"x", &[1]), (1, b"x", &[1; 402])],
     &[(0, TO_9, &[1]), (1, TO_9, &[1; 402])],
     &[(0, OF_9, &[2]), (1, OF_9, &[2; 402])],
+    &[(0, HEARD_9, &[2]), (1, HEARD_9, &[2; 402])],
+    &[(0, HEARD_10, &[1]), (1, HEARD_10, &[1; 402])],
+    &[(0, HEARD_AFTER_1, &[0]), (1, HEARD_AFTER_1, &[0; 402])],
 ];
 
 /// Checks these senders with these packets received.

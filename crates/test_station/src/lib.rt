@@ -1,5 +1,5 @@
 //! Tests of a station's edge: the reporter (alone, and beside a relay in threads), its schedule, the
-//! counts of a link, a link over loopback, the system's clock, a new key, and a formatted disk in
+//! counts of a link, a link over loopback and its receive buffer, the system's clock, a new key, and a formatted disk in
 //! memory.
 //!
 //! Nothing is proved of a real socket or clock. Runs of the program are in the repository's folder

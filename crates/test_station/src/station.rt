@@ -1,5 +1,6 @@
-//! Links over loopback, keys, and formatted disks.
+//! Links over loopback, their receive buffers, keys, and formatted disks.
 
 mod format_check;
 mod keys;
 mod links;
+mod receive_buffers;

@@ -165,7 +165,7 @@ fn contacts_are_those_of_the_plan(rt: HostRuntime) -> Result<(), Fail> {
     Ok(())
 }
 
-/// Data from station 3 to station 7, custody and refusal back: the worked messages of docs/PROTOCOL.md.
+/// Data from station 3 to station 7, custody, refusal and Heard back: the worked messages of docs/PROTOCOL.md.
 const DATA: [u8; 21] = [
     0x52, 0x4c, 0x01, 0x01, 0x00, 0x03, 0x00, 0x07, 0, 0, 0, 0, 0, 0, 0, 1, 0x00, 0x03, 0x00, 0x0c,
     0x41,
@@ -177,6 +177,11 @@ const CUSTODY: [u8; 16] = [
 
 const REFUSED: [u8; 17] = [
     0x52, 0x4c, 0x01, 0x03, 0x00, 0x07, 0x00, 0x03, 0, 0, 0, 0, 0, 0, 0, 1, 0x06,
+];
+
+const HEARD_MESSAGE: [u8; 24] = [
+    0x52, 0x4c, 0x01, 0x05, 0x00, 0x07, 0x00, 0x03, 0, 0, 0, 0, 0, 0, 0, 1, 0x60, 0, 0, 0, 0, 0, 0,
+    0,
 ];
 
 const OWN: StationId = StationId(7);
@@ -218,6 +223,7 @@ fn what_is_sent_is_counted(rt: HostRuntime) {
     counts.send(&REFUSED);
     counts.send(&DATA);
     counts.send(&REFUSED[..16]);
+    counts.send(&HEARD_MESSAGE);
     let sent = PeerCounts {
         custody: 2,
         refused: 1,

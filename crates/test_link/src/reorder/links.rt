@@ -1,7 +1,7 @@
 //! A link with a reorder buffer, over a link in memory. The stations are those of
 //! docs/PROTOCOL.md, "An exchange, byte for byte".
 use crate::expect::expect_row;
-use crate::reorder::packets::{custody, data, limited, put};
+use crate::reorder::packets::{custody, data, heard, limited, put, refused};
 use rly_hop::StationId;
 use rly_link::{Link, LinkFault, MAX_PACKET, MemLink};
 use rly_link_reorder::{ReorderBuffer, ReorderedLink};
@@ -55,6 +55,8 @@ enum Act<'a> {
     Sends(&'a [u8]),
     /// Custody of all numbers up to this one is sent.
     Acknowledges(u8),
+    /// The same, and the call fails.
+    AcknowledgesNot(u8),
     /// The link below had this many calls.
     Calls(u64),
     /// This many of them were receives that wait.
@@ -94,6 +96,7 @@ fn is_seen(link: &mut ReorderedLink<MemLink>, act: &Act<'_>) -> bool {
         Act::Fails => waited(link) == Err(LinkFault),
         Act::Sends(packet) => link.send(*packet) == Ok(()),
         Act::Acknowledges(last) => link.send(&custody(*last)) == Ok(()),
+        Act::AcknowledgesNot(last) => link.send(&custody(*last)) == Err(LinkFault),
         Act::Calls(calls) => link.link().calls() == *calls,
         Act::Waited(waits) => link.link().waits() == *waits,
         Act::Failed(failures) => link.failures() == *failures,
@@ -115,11 +118,15 @@ fn run<R: Abort>(rt: &R, link: &mut ReorderedLink<MemLink>, acts: &[Act<'_>]) {
     }
 }
 
-/// Checks the number of packets sent over the link below, and the last one.
-fn expect_last<R: Abort>(rt: &R, below: &MemLink, count: usize, packet: &[u8]) {
+/// Exactly these packets were sent over the link below.
+fn expect_sent<R: Abort>(rt: &R, below: &MemLink, packets: &[&[u8]]) {
     let delivered = below.deliveries();
-    expect!(*rt; delivered.len() == count);
-    expect!(*rt; matches!(delivered.last(), Some(last) if last.as_slice() == packet));
+    expect!(*rt; delivered.len() == packets.len());
+    let mut row = 0u64;
+    for (sent, packet) in delivered.iter().zip(packets) {
+        row = row.saturating_add(1);
+        expect_row(rt, sent.as_slice() == *packet, "sent", row);
+    }
 }
 
 /// Data 2 is lost. Data 3 is received, and no custody of it is sent. Once 2 is received, 3 is delivered again,
@@ -136,15 +143,150 @@ fn a_lost_packet_costs_itself_alone(rt: HostRuntime) {
         Act::Nothing,
         Act::Acknowledges(1),
         Act::Data(2),
-        Act::Calls(7),
+        Act::Calls(8),
         Act::Data(3),
-        Act::Calls(7),
+        Act::Calls(8),
         Act::Nothing,
         Act::Acknowledges(3),
         Act::Nothing,
     ];
     run(&rt, &mut link, acts);
-    expect_last(&rt, &link.into_link(), 3, &custody(3));
+    let told = heard(1, *b"\x40\x00\x00\x00\x00\x00\x00\x00");
+    let sent: &[&[u8]] = &[&custody(1), &custody(1), &told, &custody(3)];
+    expect_sent(&rt, &link.into_link(), sent);
+}
+
+/// Station 7's link receives these, does the acts, and sends exactly these packets below.
+fn expect_told<R: Abort>(
+    rt: &R,
+    alloc: Global,
+    coming: &[&[u8]],
+    fails_at: u64,
+    acts: &[Act<'_>],
+    sent: &[&[u8]],
+) {
+    let mut link = ahead_over(rt, alloc, coming, fails_at);
+    run(rt, &mut link, acts);
+    expect_sent(rt, &link.into_link(), sent);
+}
+
+/// 1 is kept, 2 was lost, and 3 and 4 wait for it: one Heard after the custody, the one of docs/PROTOCOL.md.
+#[test]
+fn a_gap_is_told_after_the_custody(rt: HostRuntime) {
+    let coming: &[&[u8]] = &[&data(1), &data(3), &data(4)];
+    let acts: &[Act<'_>] = &[
+        Act::Data(1),
+        Act::Data(3),
+        Act::Data(4),
+        Act::Acknowledges(1),
+    ];
+    let told =
+        *b"\x52\x4c\x01\x05\x00\x07\x00\x03\x00\x00\x00\x00\x00\x00\x00\x01\x60\x00\x00\x00\x00\x00\x00\x00";
+    expect_told(&rt, rt.alloc(), coming, 0, acts, &[&custody(1), &told]);
+}
+
+/// Without a gap there is none.
+#[test]
+fn without_a_gap_nothing_is_told(rt: HostRuntime) {
+    let coming: &[&[u8]] = &[&data(1), &data(2), &data(3)];
+    let acts: &[Act<'_>] = &[
+        Act::Data(1),
+        Act::Data(2),
+        Act::Acknowledges(2),
+        Act::Data(3),
+        Act::Acknowledges(3),
+    ];
+    expect_told(
+        &rt,
+        rt.alloc(),
+        coming,
+        0,
+        acts,
+        &[&custody(2), &custody(3)],
+    );
+}
+
+/// A second custody has a Heard only if Data came since the first one, whatever Data that is.
+#[test]
+fn a_gap_is_told_again_only_after_data(rt: HostRuntime) {
+    let coming: &[&[u8]] = &[&data(1), &data(3), &[], &data(1)];
+    let acts: &[Act<'_>] = &[
+        Act::Data(1),
+        Act::Data(3),
+        Act::Acknowledges(1),
+        Act::Nothing,
+        Act::Acknowledges(1),
+        Act::Data(1),
+        Act::Acknowledges(1),
+    ];
+    let told = heard(1, *b"\x40\x00\x00\x00\x00\x00\x00\x00");
+    let sent: &[&[u8]] = &[&custody(1), &told, &custody(1), &custody(1), &told];
+    expect_told(&rt, rt.alloc(), coming, 0, acts, sent);
+}
+
+/// A number that was refused is marked, as 2 after 1 here; a refusal alone has no Heard after it.
+#[test]
+fn a_refused_number_is_told(rt: HostRuntime) {
+    let coming: &[&[u8]] = &[&data(1), &data(2)];
+    let acts: &[Act<'_>] = &[
+        Act::Data(1),
+        Act::Data(2),
+        Act::Sends(&refused(2)),
+        Act::Calls(3),
+        Act::Acknowledges(1),
+    ];
+    let told = heard(1, *b"\x80\x00\x00\x00\x00\x00\x00\x00");
+    expect_told(
+        &rt,
+        rt.alloc(),
+        coming,
+        0,
+        acts,
+        &[&refused(2), &custody(1), &told],
+    );
+}
+
+/// A refusal to or of another station marks nothing.
+#[test]
+fn refusals_of_others_are_not_told(rt: HostRuntime) {
+    let mut to_other = refused(2);
+    to_other[7] = 4;
+    let mut of_other = refused(2);
+    of_other[5] = 8;
+    for other in [to_other, of_other] {
+        let acts: &[Act<'_>] = &[Act::Data(1), Act::Sends(&other), Act::Acknowledges(1)];
+        expect_told(
+            &rt,
+            rt.alloc(),
+            &[&data(1)],
+            0,
+            acts,
+            &[&other, &custody(1)],
+        );
+    }
+}
+
+/// A custody that can't be sent has no Heard after it, and none follows later without new Data. A Heard that can't be
+/// sent is a failure of the call.
+#[test]
+fn a_failure_of_either_is_told(rt: HostRuntime) {
+    let coming: &[&[u8]] = &[&data(1), &data(3)];
+    let acts: &[Act<'_>] = &[
+        Act::Data(1),
+        Act::Data(3),
+        Act::AcknowledgesNot(1),
+        Act::Failed(1),
+        Act::Acknowledges(1),
+    ];
+    expect_told(&rt, rt.alloc(), coming, 3, acts, &[&custody(1)]);
+    expect_told(
+        &rt,
+        rt.alloc(),
+        coming,
+        4,
+        acts,
+        &[&custody(1), &custody(1)],
+    );
 }
 
 /// A receive that waits returns a due packet at once.
@@ -231,7 +373,7 @@ fn expect_given_again<R: Abort>(rt: &R, alloc: Global, longest: usize, packet: &
         Act::Waits(packet),
         Act::Acknowledges(1),
         Act::Gives(packet),
-        Act::Calls(3),
+        Act::Calls(4),
     ];
     run(rt, &mut link, acts);
 }

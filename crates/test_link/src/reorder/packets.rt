@@ -27,6 +27,22 @@ pub(crate) fn custody(last: u8) -> [u8; 16] {
     packet
 }
 
+/// Heard from station 7 to station 3: the last number kept, and the bits of the 64 after it.
+pub(crate) fn heard(last: u8, bits: [u8; 8]) -> [u8; 24] {
+    let mut packet =
+        *b"\x52\x4c\x01\x05\x00\x07\x00\x03\x00\x00\x00\x00\x00\x00\x00\x00\x00\x00\x00\x00\x00\x00\x00\x00";
+    packet[15] = last;
+    packet[16..].copy_from_slice(&bits);
+    packet
+}
+
+/// Refusal 21 of a number below 256, from station 7 to station 3.
+pub(crate) fn refused(number: u8) -> [u8; 17] {
+    let mut packet = *b"\x52\x4c\x01\x03\x00\x07\x00\x03\x00\x00\x00\x00\x00\x00\x00\x00\x15";
+    packet[15] = number;
+    packet
+}
+
 /// The next receive of a link: this packet, or nothing if it is empty.
 fn given(alloc: Global, packet: &[u8]) -> Result<Option<Vec<u8>>, AllocError> {
     if packet.is_empty() {

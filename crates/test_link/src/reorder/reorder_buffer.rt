@@ -22,6 +22,12 @@ enum Act {
     GivesNothing,
     /// Nothing is delivered into a buffer of 20 bytes.
     FitsNot,
+    /// A refusal of this number is sent.
+    Refuses(u64),
+    /// The Heard that is due has these bits, and is sent.
+    Tells(u64),
+    /// No Heard is due.
+    TellsNothing,
 }
 
 /// The Data of this number are delivered.
@@ -58,6 +64,13 @@ fn is_done<R: Abort>(rt: &R, early: &mut ReorderBuffer, act: Act) -> bool {
             return early.give(&mut [0; 21]).is_none();
         }
         Act::GivesNothing => return early.give(&mut [0; 21]).is_none(),
+        Act::Refuses(number) => early.refuse(number),
+        Act::Tells(bits) => {
+            let due = early.heard_due();
+            early.tell();
+            return due == Some(bits);
+        }
+        Act::TellsNothing => return early.heard_due().is_none(),
         Act::FitsNot => return early.give(&mut [0; 20]).is_none(),
     }
     true
@@ -238,4 +251,38 @@ const SHORT: &[Act] = &[
 #[test]
 fn what_does_not_fit_stays(rt: HostRuntime) {
     run_for(&rt, rt.alloc(), 1_223, SHORT);
+}
+
+/// Custody of 10 is the first of this run. 12 to 74 wait for 11: all places but the first are marked. 75 is refused and
+/// beyond the places; once custody covers 11 to 14 it is the 61st, and 15 to 74 are marked before it.
+const MARKED: &[Act] = &[
+    Act::TellsNothing,
+    Act::Covers(10),
+    Act::Hears(12, 74),
+    Act::Refuses(75),
+    Act::Tells(0x7fff_ffff_ffff_ffff),
+    Act::TellsNothing,
+    Act::Covers(14),
+    Act::Hears(15, 15),
+    Act::Tells(0xffff_ffff_ffff_fff8),
+];
+
+#[test]
+fn what_waits_or_was_refused_is_marked(rt: HostRuntime) {
+    run_for(&rt, rt.alloc(), 1_223, MARKED);
+}
+
+/// After the last numbers of 64 bits there are no places: the last one is never stored, and a refusal of 0 is none.
+const LAST_MARKED: &[Act] = &[
+    Act::Covers(u64::MAX - 2),
+    Act::HearsAs(u64::MAX, 1),
+    Act::Refuses(0),
+    Act::TellsNothing,
+    Act::Refuses(u64::MAX),
+    Act::Tells(0x4000_0000_0000_0000),
+];
+
+#[test]
+fn places_beyond_the_last_number_are_not_marked(rt: HostRuntime) {
+    run_for(&rt, rt.alloc(), 1_223, LAST_MARKED);
 }

@@ -1,5 +1,5 @@
 //! A receiving worker over a link with a reorder buffer.
-use crate::reorder::packets::{custody, data, put};
+use crate::reorder::packets::{custody, data, heard, put};
 use rly_core::{Params, PeerId};
 use rly_hop::StationId;
 use rly_link::{MemLink, MemTurn, MemWaker};
@@ -62,17 +62,14 @@ fn ends_of<R: Abort>(rt: &R, alloc: Global, turns: &[&[u8]]) -> MemEnds {
     }
 }
 
-/// Exactly these custodies were sent.
-fn has_sent<R: Abort>(rt: &R, ends: &MemEnds, lasts: &[u8]) {
+/// Exactly these packets were sent.
+fn has_sent<R: Abort>(rt: &R, ends: &MemEnds, packets: &[&[u8]]) {
     let sent = ends.link.link().deliveries();
-    crate::expect::expect(rt, sent.len() == lasts.len(), "as many as these");
-    for (packet, last) in sent.iter().zip(lasts) {
-        crate::expect::expect_row(
-            rt,
-            packet.as_slice() == custody(*last).as_slice(),
-            "custody",
-            u64::from(*last),
-        );
+    crate::expect::expect(rt, sent.len() == packets.len(), "as many as these");
+    let mut row = 0u64;
+    for (packet, other) in sent.iter().zip(packets) {
+        row = row.saturating_add(1);
+        crate::expect::expect_row(rt, packet.as_slice() == *other, "packet", row);
     }
 }
 
@@ -84,11 +81,11 @@ struct Ended {
     waits: u64,
 }
 
-/// The worker receives all packets of its link, and sends these custodies.
-fn run<R: Abort + Wait>(rt: &R, alloc: Global, ends: &mut MemEnds, lasts: &[u8]) -> Ended {
+/// The worker receives all packets of its link, and its link sends these.
+fn run<R: Abort + Wait>(rt: &R, alloc: Global, ends: &mut MemEnds, sent: &[&[u8]]) -> Ended {
     let plan = Plan::from_toml(alloc, PLAN).ok().expect(rt, "a plan");
     receiver_run(rt, alloc, &plan, PeerId(1), ends);
-    has_sent(rt, ends, lasts);
+    has_sent(rt, ends, sent);
     Ended {
         items: ends.desk.machine().item_count(),
         calls: ends.desk.calls(),
@@ -96,41 +93,45 @@ fn run<R: Abort + Wait>(rt: &R, alloc: Global, ends: &mut MemEnds, lasts: &[u8])
     }
 }
 
-/// A new worker receives these turns, one list of numbers each, and sends these custodies.
-fn receive<R: Abort + Wait>(rt: &R, alloc: Global, turns: &[&[u8]], lasts: &[u8]) -> Ended {
+/// A new worker receives these turns, one list of numbers each, and its link sends these packets.
+fn receive<R: Abort + Wait>(rt: &R, alloc: Global, turns: &[&[u8]], sent: &[&[u8]]) -> Ended {
     let mut ends = ends_of(rt, alloc, turns);
-    run(rt, alloc, &mut ends, lasts)
+    run(rt, alloc, &mut ends, sent)
 }
 
 /// Data 2 of ten is lost. In the turn in which it is received the eight after it are asked with it, and one custody
-/// of all is sent.
+/// of all is sent. The first custody has a Heard after it, of 3 to 10.
 #[test]
 fn one_lost_packet_is_sent_again_alone(rt: HostRuntime) {
     let turns: &[&[u8]] = &[&[1, 3, 4, 5, 6, 7, 8, 9, 10], &[2]];
-    let ended = receive(&rt, rt.alloc(), turns, &[1, 10]);
+    let told = heard(1, *b"\x7f\x80\x00\x00\x00\x00\x00\x00");
+    let ended = receive(&rt, rt.alloc(), turns, &[&custody(1), &told, &custody(10)]);
     expect!(rt; ended.items == 10);
     expect!(rt; ended.calls == 18);
     expect!(rt; ended.waits == 2);
 }
 
-/// A stored Data isn't acknowledged: 3 is stored, and custody stays at 1.
+/// A stored Data isn't acknowledged: 3 is stored, and custody stays at 1. A turn in which nothing came sends nothing.
 #[test]
 fn what_is_kept_is_not_acknowledged(rt: HostRuntime) {
-    let ended = receive(&rt, rt.alloc(), &[&[1], &[3], &[], &[3]], &[1, 1, 1]);
+    let told = heard(1, *b"\x40\x00\x00\x00\x00\x00\x00\x00");
+    let sent: &[&[u8]] = &[&custody(1), &custody(1), &told, &custody(1), &told];
+    let ended = receive(&rt, rt.alloc(), &[&[1], &[3], &[], &[3]], sent);
     expect!(rt; ended.items == 1);
 }
 
 /// Packets that overtake each other within a turn are taken in it.
 #[test]
 fn what_overtakes_is_taken_in_its_turn(rt: HostRuntime) {
-    let ended = receive(&rt, rt.alloc(), &[&[3, 1, 2]], &[3]);
+    let ended = receive(&rt, rt.alloc(), &[&[3, 1, 2]], &[&custody(3)]);
     expect!(rt; ended.items == 3);
 }
 
 /// If all are in order, nothing is asked twice.
 #[test]
 fn in_order_nothing_is_given_again(rt: HostRuntime) {
-    let ended = receive(&rt, rt.alloc(), &[&[1, 2, 3], &[4, 5], &[6]], &[3, 5, 6]);
+    let sent: &[&[u8]] = &[&custody(3), &custody(5), &custody(6)];
+    let ended = receive(&rt, rt.alloc(), &[&[1, 2, 3], &[4, 5], &[6]], sent);
     expect!(rt; ended.items == 6);
     expect!(rt; ended.calls == 6);
 }

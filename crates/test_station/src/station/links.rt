@@ -231,6 +231,26 @@ fn an_empty_packet_ends_a_wait(rt: HostRuntime) {
     expect_woken_link(&rt, rt);
 }
 
+/// Checks that a link's receive buffer becomes as large as it is asked for, and never smaller.
+fn expect_grown(rt: &(impl Abort + Host), link: &UdpLink<HostRuntime>) {
+    let had = link.grow_buffer(0).expect(rt, "a size");
+    let wanted = had.saturating_add(1_024);
+    expect!(*rt; link.grow_buffer(wanted) == Some(wanted));
+    expect!(*rt; link.grow_buffer(had) == Some(wanted));
+}
+
+/// The same for a new link.
+fn expect_grown_link(rt: &(impl Abort + Host), clock: HostRuntime) {
+    let link = link_of(rt, clock, "127.0.0.1:4030", "127.0.0.1:4031");
+    expect_grown(rt, &link);
+}
+
+/// A link's receive buffer grows by as little as 1,024 bytes, which the system grants.
+#[test]
+fn a_receive_buffer_grows(rt: HostRuntime) {
+    expect_grown_link(&rt, rt);
+}
+
 /// The same for a packet that is longer than any of UDP.
 fn expect_failures(rt: &(impl Abort + Host), clock: HostRuntime) {
     let mut link = link_of(rt, clock, "127.0.0.1:4023", "127.0.0.1:4024");

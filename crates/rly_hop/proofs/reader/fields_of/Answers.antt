@@ -1,5 +1,5 @@
 use Rattle.std.proofs.Common.{arith}
-use Rattle.rly_hop.proofs.KindFields.{data-read, fixed-16, limited-data-read, number-room, refused-read}
+use Rattle.rly_hop.proofs.KindFields.{data-read, fixed-16, heard-read, limited-data-read, number-room, refused-read}
 use Rattle.rly_hop.proofs.reader.fields_of.Goals as goal
 
 pub slice_bounds-read_u64-count : goal.slice_bounds-read_u64-count
@@ -28,3 +28,8 @@ pub returns-in-Refused : goal.returns-in-Refused
 returns-in-Refused c =
     refused-read c.args.bytes.now c.args.header.kind c.args.header.from c.args.header.to c.read_u64-number.result c.in-Refused.is
     (record { from_is = c.requires.from; to_is = c.requires.to; number_is = c.read_u64-number.ensures })
+
+pub returns-in-Heard : goal.returns-in-Heard
+returns-in-Heard c =
+    heard-read c.args.bytes.now c.args.header.kind c.args.header.from c.args.header.to c.read_u64-number.result c.read_u64.result c.in-Heard.is
+    (record { from_is = c.requires.from; to_is = c.requires.to; number_is = c.read_u64-number.ensures }) c.read_u64.ensures

@@ -14,7 +14,7 @@ push_reserved-requires c =
     omega (
       arith,
       ap length before.asks,
-      few_asks w c.args.now (out_action_bytes c.args.first) c.loop-place.place,
+      few_asks w c.args.now c.args.again.now.items (out_action_bytes c.args.named) c.loop-place.place,
       c.loop-place-test.true,
       c.requires.room,
       before.capacity,
@@ -25,10 +25,11 @@ pub loop-place-preserved : goal.loop-place-preserved
 loop-place-preserved c =
     let before = c.loop-place.invariant in
     let w = sender_worker c.args.self.now.plan.now c.args.self.now.hop in
-    let first = out_action_bytes c.args.first in
-    let listed = filter_map (named_ask w c.args.now) (calls_from first c.loop-place.place) in
-    let named : c.named_ask.result ≡ named_ask w c.args.now (call_at first c.loop-place.place) = c.named_ask.ensures ∙ ap (named_ask w c.args.now) c.call_at.ensures in
-    let more = asks_more w c.args.now first c.loop-place.place in
+    let again = c.args.again.now.items in
+    let first = out_action_bytes c.args.named in
+    let listed = filter_map (named_ask w c.args.now) (calls_from again first c.loop-place.place) in
+    let named : c.named_ask.result ≡ named_ask w c.args.now (call_at again first c.loop-place.place) = c.named_ask.ensures ∙ ap (named_ask w c.args.now) c.call_at.ensures in
+    let more = asks_more w c.args.now again first c.loop-place.place in
     elim c.match-named_ask.branch [
       | in-Some x ↦ record {
         asks = (λ i. (x.asks-is i).items) ∙ x.push_reserved.ensures.items ∙ ap (λ l. l ++ x.in-Some.ask ∷ []) before.asks

@@ -20,7 +20,7 @@ loop-place-preserved g c =
       left = omega (arith, ap length taken, length-append rest (answer ∷ []), before.left);
       capacity = c.take_last-answer.ensures.capacity ∙ before.capacity;
       same = λ i. record (before.same i) { pacing = now };
-      telling = telling_more (out_action_bytes c.args.first) c.args.is_open c.args.at c.args.ends.now c.loop-place.ends c.tell.new.ends c.args.self.now.pacing was.pacing now
+      telling = telling_more c.args.again.now.items (out_action_bytes c.args.named) c.args.is_open c.args.at c.args.ends.now c.loop-place.ends c.tell.new.ends c.args.self.now.pacing was.pacing now
           c.args.answers.now.items (reverse c.loop-place.answers.items) (reverse rest) c.loop-place.place answer (out_event_bytes c.event_in-event.result)
           before.telling (first_of_reversed c.loop-place.answers.items rest answer taken)
           (c.event_in-event.ensures ∙ ap (λ x. event_in x answer.reply) c.call_at.ensures)

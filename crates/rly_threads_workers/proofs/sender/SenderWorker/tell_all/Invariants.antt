@@ -9,6 +9,6 @@ invariant-loop-place g l = record {
   left : length l.answers.items + l.place ≡ length l.fn.answers.items;
   capacity : vec_capacity l.answers ≡ vec_capacity l.fn.answers;
   same : l.self ≡ record l.fn.self { pacing = l.self.pacing };
-  telling : Telling (out_action_bytes l.first) l.is_open l.at l.fn.ends l.ends l.fn.self.pacing l.self.pacing
+  telling : Telling l.again.items (out_action_bytes l.named) l.is_open l.at l.fn.ends l.ends l.fn.self.pacing l.self.pacing
       l.fn.answers.items (reverse l.answers.items) l.place;
 }

@@ -1,0 +1,11 @@
+use Rattle.std.proofs.Common.{◌≡◌, drop, map}
+use Rattle.rly_station.specs.ReceiveBuffers.{buffer_warnings}
+use Rattle.rly_station.specs.Warnings.{logged_warnings}
+use Rattle.rly_link_udp.proofs.posts.warn_of_buffers.Given as goal
+
+-- none of the links before is to be logged, and none was
+abbrev pub invariant-loop-post : goal.invariant-loop-post
+invariant-loop-post g l =
+    (logged_warnings l.teller ≡ logged_warnings l.fn.teller)
+    × (buffer_warnings l.wanted (map (λ post. post.link.buffer) (drop l.post-index l.posts))
+    ≡ buffer_warnings l.wanted (map (λ post. post.link.buffer) l.posts))
