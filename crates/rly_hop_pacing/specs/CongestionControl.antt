@@ -13,7 +13,8 @@ use Rattle.rly_hop_pacing.specs.Flights.{covers, flight_on_covered, flight_on_se
 use Rattle.rly_hop_pacing.specs.Pacers.{first_pacer, on_paced, pacer_room}
 use Rattle.rly_hop_pacing.specs.Scoreboards.{after_heard, after_sending, empty_board, forgotten, is_after_timeout, is_heard, is_passed}
 use Rattle.rly_hop_pacing.specs.Scoreboards.{is_repeated_before, is_told, last_sent, last_sent_at, on_opening, one_more}
-use Rattle.rly_hop_pacing.specs.Timers.{first_timer, is_past, round_trip, timer_anew, timer_on_sample, timer_on_timeout}
+use Rattle.rly_hop_pacing.specs.Timers.{first_timer, is_past, round_trip, timer_anew, timer_limited, timer_on_sample}
+use Rattle.rly_hop_pacing.specs.Timers.{timer_on_timeout}
 use Rattle.rly_hop_pacing.specs.Windows.{first_congestion, on_round, shortest}
 
 -- whether a contact is open; the flight, the scoreboard, the retransmission timer, the congestion window, the pacer and
@@ -120,15 +121,19 @@ on_report p last bits at =
 abbrev pub is_recovering : ControlView → Bool
 is_recovering p = not p.is_reporting && nat_lt p.flight.covered (min p.recover p.flight.reached)
 
--- Custody of the numbers up to last was received. It ends the doubling, once a round trip was measured. One that covers no
--- number in flight changes nothing.
+-- the timer after custody of more: the doubling ends once a round trip was measured
+abbrev pub timer_on_covered : Timer → (is_recovering : Bool) → (passed : ℕ) → Timer
+timer_on_covered t is_recovering passed =
+    if is_some t.trip then timer_anew t else (if is_recovering then timer_limited t passed else t)
+
+-- Custody of the numbers up to last was received. One that covers no number in flight changes nothing.
 abbrev pub on_covered : ControlView → (last at : ℕ) → ControlView
 on_covered p last at =
     let told = on_report p last 0 at in
     if covers p.flight last
     then record told {
       flight = flight_on_covered p.flight last;
-      timer = if is_some told.timer.trip then timer_anew told.timer else told.timer;
+      timer = timer_on_covered told.timer (is_recovering p) (at - p.covered_at);
       covered_at = at;
       news_at = Some at;
       is_due = is_recovering (record told { flight = flight_on_covered p.flight last });

@@ -1,5 +1,5 @@
 -- The retransmission timer of a hop (RFC 6298, sections 2 and 5).
-use Rattle.std.specs.Prelude.{ℕ, ◌-◌, nat_le, Bool, Option, None, Some}
+use Rattle.std.specs.Prelude.{ℕ, ◌-◌, ◌*◌, ◌^◌, max, min, nat_le, Bool, Option, None, Some}
 use Rattle.rly_hop_pacing.specs.declared.round_trip.RoundTrip.{RoundTrip}
 use Rattle.rly_hop_pacing.specs.declared.timer.Timer.{Timer}
 use Rattle.rly_hop_pacing.specs.RoundTrips.{doubled_wait, plain_wait, after_sample}
@@ -23,6 +23,11 @@ timer_anew t = record t { wait = plain_wait t.resend t.trip }
 -- a sample was taken: it ends the doubling (RFC 6298, section 5, and Karn's rule)
 abbrev pub timer_on_sample : Timer → ℕ → Timer
 timer_on_sample t passed = timer_anew (record t { trip = Some (after_sample t.trip passed) })
+
+-- A hop that gets its numbers one by one covered one more, this long after the one before: a doubled wait is at most
+-- twice as long.
+abbrev pub timer_limited : Timer → ℕ → Timer
+timer_limited t passed = record t { wait = max (plain_wait t.resend t.trip) (min t.wait (min (passed * 2) (2 ^ 64 - 1))) }
 
 -- whether the wait has passed since a moment
 abbrev pub is_past : Timer → (since at : ℕ) → Bool

@@ -121,10 +121,13 @@ impl CongestionControl {
         ensures { self.new ≡ on_covered self.old last at }
     {
         if self.flight.covers(last) {
+            let was_recovering = self.is_recovering();
             self.report(last, 0, at);
             self.flight.cover(last);
             if self.timer.trip.is_some() {
                 self.timer.begin();
+            } else if was_recovering {
+                self.timer.limit(at.saturating_sub(self.covered_at));
             }
             self.covered_at = at;
             self.news_at = Some(at);

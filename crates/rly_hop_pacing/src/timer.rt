@@ -1,5 +1,6 @@
 ghost use Rattle.std.specs.Prelude.{◌≡◌, Some};
-ghost use Rattle.rly_hop_pacing.specs.Timers.{first_timer, is_past, round_trip, timer_anew, timer_on_sample, timer_on_timeout};
+ghost use Rattle.rly_hop_pacing.specs.Timers.{first_timer, is_past, round_trip, timer_anew};
+ghost use Rattle.rly_hop_pacing.specs.Timers.{timer_limited, timer_on_sample, timer_on_timeout};
 
 use crate::round_trip::{FIRST_WAIT, RoundTrip, doubled_wait, plain_wait};
 
@@ -49,6 +50,15 @@ impl Timer {
         ensures { self.new ≡ timer_anew self.old }
     {
         self.wait = plain_wait(self.resend, self.trip);
+    }
+
+    /// A hop that gets its numbers one by one covered one more, this long after the one before: a doubled wait is at most
+    /// twice as long.
+    pub(crate) fn limit(&mut self, passed: u64)
+        ensures { self.new ≡ timer_limited self.old passed }
+    {
+        let plain = plain_wait(self.resend, self.trip);
+        self.wait = plain.max(self.wait.min(passed.saturating_mul(2)));
     }
 
     /// Whether the wait has passed since a moment.

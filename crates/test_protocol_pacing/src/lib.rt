@@ -29,4 +29,8 @@ mod rated;
 #[cfg(test)]
 mod rates;
 #[cfg(test)]
+mod script;
+#[cfg(test)]
 mod spools;
+#[cfg(test)]
+mod timeouts;

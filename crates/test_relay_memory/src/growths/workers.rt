@@ -86,14 +86,15 @@ pub(crate) const RECEIVING: Run = Run {
     turns: (1_000, 1, 12),
 };
 
-/// No custody comes for longer than the first wait, then that of the first datagram, then that of the second.
+/// No custody comes for longer than the first wait, a second, then that of the first datagram for longer than the next
+/// wait, two seconds, then that of the second.
 pub(crate) const SENDING: Run = Run {
     worker: Worker::Sender(HopId(1)),
     comes: CUSTODY,
-    script: &[(23, 1, 0), (6, 1, 1), (12, 2, 1)],
+    script: &[(23, 1, 0), (45, 1, 1), (12, 2, 1)],
     sends: DATA_ON,
     last: 3,
-    turns: (1_012, 50_000, 41),
+    turns: (1_012, 50_000, 80),
 };
 
 /// Returns the message of this number.
@@ -184,7 +185,7 @@ pub(crate) fn make_run<R: Abort + Wait>(
 
 /// Three datagrams come twice. All are taken, at the second time at the latest, and custody goes out for all. With
 /// ample memory one custody goes out each time. Then each of them goes out, whichever allocation failed: the first
-/// after the wait at the latest, and each other one after the custody of its predecessor.
+/// after the wait at the latest, the second after the next wait, and the third after the custody of the second.
 fn expect_relayed<R: Abort + Wait>(rt: &R, alloc: Global, ends: &mut MemEnds) {
     let (refused, custody) = make_run(rt, alloc, ends, &RECEIVING);
     expect!(rt; ends.desk.machine().item_count() == 3);
