@@ -12,7 +12,8 @@ use Rattle.rly_hop_pacing.specs.declared.timer.Timer.{Timer}
 use Rattle.rly_hop_pacing.specs.Flights.{covers, flight_on_covered, flight_on_sent, in_flight_count, sent_count, sent_numbers, set_back}
 use Rattle.rly_hop_pacing.specs.Pacers.{first_pacer, on_paced, pacer_room}
 use Rattle.rly_hop_pacing.specs.Scoreboards.{after_heard, after_sending, empty_board, forgotten, is_after_timeout, is_heard, is_passed}
-use Rattle.rly_hop_pacing.specs.Scoreboards.{is_repeated_before, is_told, last_sent, last_sent_at, on_opening, one_more}
+use Rattle.rly_hop_pacing.specs.Scoreboards.{is_reordered, is_repeated_before, is_told, is_unanswered, last_sent}
+use Rattle.rly_hop_pacing.specs.Scoreboards.{last_sent_at, on_opening, one_more}
 use Rattle.rly_hop_pacing.specs.Timers.{first_timer, is_past, round_trip, timer_anew, timer_limited, timer_on_sample}
 use Rattle.rly_hop_pacing.specs.Timers.{timer_on_timeout}
 use Rattle.rly_hop_pacing.specs.Windows.{first_congestion, on_round, shortest}
@@ -116,8 +117,8 @@ on_report p last bits at =
     with_round (with_news (record p { board = board }) p.board at) at
 
 -- Whether what was sent before a Timeout isn't covered yet, by a station that never sent a Heard: it may have kept none of
--- it. So it gets that again one by one, each as the one before is covered, and one new number, which makes a station that
--- knows Heards send one. Only a Timeout after news begins this: one before was perhaps too early.
+-- it. So it gets that again one by one, each as the one before is covered, and new numbers, of which one makes a station
+-- that knows Heards send one. Only a Timeout after news begins this: one before was perhaps too early.
 abbrev pub is_recovering : ControlView → Bool
 is_recovering p = not p.is_reporting && nat_lt p.flight.covered (min p.recover p.flight.reached)
 
@@ -150,13 +151,28 @@ on_heard p last bits at =
 abbrev pub is_due_number : ControlView → ℕ → Bool
 is_due_number p number = p.is_due && (number - 1 == p.flight.covered)
 
+-- how long a number may come after one that was sent later: a sixteenth of the round trip, and a quarter if the link
+-- reorders (RFC 8985)
+abbrev pub slack : ControlView → ℕ
+slack p = if is_reordered p.board then round_trip p.timer / 4 else round_trip p.timer / 16
+
+-- a full window lets no new number out, and its first number was never heard: it isn't refused by a full station
+abbrev pub is_closed : ControlView → Bool
+is_closed p = nat_le p.congestion.window (sent_count p.flight) && ((last_sent p.board (one_more p.flight.covered)).heard == 0)
+
+-- Nothing was heard between two Timeouts. So of the numbers that were sent before the second one, the first eight go out
+-- again.
+abbrev pub is_stopped : ControlView → ℕ → Bool
+is_stopped p number =
+    (is_closed p && is_unanswered p.board number) && nat_le (number - p.flight.covered) 8
+
 -- Whether a number that was sent goes out again: a Timeout asks for it, or it isn't heard, although one that was sent
--- later is, and a quarter of the round trip has passed since (RFC 8985). A station that never sent a Heard may have it
--- ahead of a gap: it gets it again by Timeouts alone.
+-- later is, and some time has passed since (RFC 8985), or Timeouts follow each other. A station that never sent a Heard
+-- may have it ahead of a gap: it gets it again by Timeouts alone.
 abbrev pub is_missing : ControlView → (at number : ℕ) → Bool
 is_missing p at number =
     is_due_number p number
-    || (p.is_reporting && not (is_heard p.board number) && is_passed p.board number at (round_trip p.timer / 4))
+    || ((p.is_reporting && not (is_heard p.board number)) && (is_passed p.board number at (slack p) || is_stopped p number))
 
 -- whether a number that was sent since the last Timeout is neither heard nor missing
 abbrev pub is_on_way : ControlView → (at number : ℕ) → Bool
@@ -191,6 +207,13 @@ abbrev pub is_timeout : ControlView → ℕ → Bool
 is_timeout p at = p.is_open && not p.is_due && nat_lt p.flight.covered p.flight.reached
     && is_past p.timer (max (last_sent_at p.board (p.flight.covered + 1)) p.covered_at) at
 
+-- The number after all that the station gets one by one: a Timeout after news lets one new number out, and a further one
+-- lets out four.
+abbrev pub recover_after : ControlView → ℕ
+recover_after p =
+    if is_some p.news_at then one_more p.flight.reached
+    else (if is_recovering p then min (p.flight.reached + 4) (2 ^ 64 - 1) else p.recover)
+
 abbrev pub with_timeout : ControlView → ℕ → ControlView
 with_timeout p at =
     if is_timeout p at
@@ -200,7 +223,7 @@ with_timeout p at =
       round = first_round p.board at;
       news_at = None;
       is_due = true;
-      recover = if is_some p.news_at then one_more p.flight.reached else p.recover;
+      recover = recover_after p;
     }
     else p
 

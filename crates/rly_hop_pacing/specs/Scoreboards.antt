@@ -1,6 +1,6 @@
 -- The scoreboard of a hop: when each number in flight was last sent, and which were heard (RFC 6675; docs/PROTOCOL.md,
 -- "The pace of a hop"). Moments are microseconds.
-use Rattle.std.specs.Prelude.{ℕ, zero, suc, ◌+◌, ◌-◌, ◌/◌, ◌%◌, ◌^◌, ◌==◌, min, nat_le, nat_lt, Bool, true, false, not}
+use Rattle.std.specs.Prelude.{ℕ, zero, suc, ◌+◌, ◌-◌, ◌/◌, ◌%◌, ◌^◌, ◌==◌, max, min, nat_le, nat_lt, Bool, true, false, not}
 use Rattle.std.specs.Prelude.{◌&&◌, ◌||◌, if◌then◌else◌, replicate, slice_index_or, slice_set}
 use Rattle.rly_hop.specs.HeardBits.{marks}
 use Rattle.rly_hop_pacing.specs.declared.scoreboard.Scoreboard.{Scoreboard}
@@ -23,6 +23,9 @@ empty_board = record {
   news = 0;
   firsts = 0;
   lost = 0;
+  silent = 0;
+  ahead = 0;
+  late = 0;
 }
 
 -- one more, up to the last of 64 bits
@@ -53,6 +56,10 @@ is_passed b number at slack =
 -- a number was last sent after the last Timeout
 abbrev pub is_after_timeout : Scoreboard → ℕ → Bool
 is_after_timeout b number = nat_lt b.lost (last_sent b number).order
+
+-- a number was last sent before a Timeout, and nothing was heard between that and the one before
+abbrev pub is_unanswered : Scoreboard → ℕ → Bool
+is_unanswered b number = nat_le (last_sent b number).order b.silent
 
 -- a number was sent more than once, the last time at least this long ago
 abbrev pub is_repeated_before : Scoreboard → (number at wait : ℕ) → Bool
@@ -85,12 +92,23 @@ with_newest b sent at trip =
     if is_newer b sent at trip
     then record b { newest = sent.order; trip = at - sent.at; is_sample = not sent.again && (sent.heard == 0) } else b
 
+-- A number that was sent once was first heard after a greater one: the link reorders.
+abbrev pub is_late : Scoreboard → Sent → Bool
+is_late b sent = (not sent.again && (sent.heard == 0)) && nat_lt sent.number b.ahead
+
+abbrev pub with_late : Scoreboard → Sent → Scoreboard
+with_late b sent = record b { ahead = max b.ahead sent.number; late = if is_late b sent then b.epoch else b.late }
+
+-- whether it did since the last Timeout
+abbrev pub is_reordered : Scoreboard → Bool
+is_reordered b = b.late == b.epoch
+
 -- a number was heard, which counts once in an epoch
 abbrev pub heard_one : Scoreboard → (at trip number : ℕ) → Scoreboard
 heard_one b at trip number =
     let sent = last_sent b number in
     if not (sent.number == number) || (sent.heard == b.epoch) then b
-    else record (with_newest b sent at trip) {
+    else record (with_late (with_newest b sent at trip) sent) {
       slots = slice_set b.slots (slot_of number) (record sent { heard = b.epoch });
       news = if sent.heard == 0 then one_more b.news else b.news;
       firsts = if (sent.heard == 0) && not sent.again then one_more b.firsts else b.firsts;
@@ -112,7 +130,12 @@ after_heard b told at trip covered (suc place) =
 
 -- a Timeout: what was heard is forgotten
 abbrev pub forgotten : Scoreboard → Scoreboard
-forgotten b = record b { epoch = one_more b.epoch; newest = 0; lost = b.count }
+forgotten b = record b {
+  epoch = one_more b.epoch;
+  newest = 0;
+  lost = b.count;
+  silent = if b.newest == 0 then b.count else b.silent;
+}
 
 -- A contact opens: what was heard is forgotten, and no earlier sending counts as the latest.
 abbrev pub on_opening : Scoreboard → Scoreboard

@@ -1,10 +1,10 @@
 ghost use Rattle.std.specs.Prelude.{◌≡◌, ◌+◌, ◌<◌, ◌&&◌, ◌∷◌, ◌++◌, [], if◌then◌else◌, length, nat_lt, Some, None};
 ghost use Rattle.rly_hop_pacing.specs.CongestionControl.{ControlView, first_control, first_round, is_due_number, is_missing};
 ghost use Rattle.rly_hop_pacing.specs.Flights.{sent_count};
-ghost use Rattle.rly_hop_pacing.specs.CongestionControl.{first_option, is_on_way, is_recovering, is_spare};
-ghost use Rattle.rly_hop_pacing.specs.CongestionControl.{is_opening, is_timeout, is_wide, on_contact, on_covered};
+ghost use Rattle.rly_hop_pacing.specs.CongestionControl.{first_option, is_closed, is_on_way, is_recovering, is_spare};
+ghost use Rattle.rly_hop_pacing.specs.CongestionControl.{is_opening, is_stopped, is_timeout, is_wide, on_contact, on_covered};
 ghost use Rattle.rly_hop_pacing.specs.CongestionControl.{on_heard, on_report, on_sent, on_time, on_window, open_room};
-ghost use Rattle.rly_hop_pacing.specs.CongestionControl.{probe_number, repeats, spare_number, spare_of, unrated_room};
+ghost use Rattle.rly_hop_pacing.specs.CongestionControl.{probe_number, repeats, slack, spare_number, spare_of, unrated_room};
 ghost use Rattle.rly_hop_pacing.specs.CongestionControl.{unsent_count, way_count, with_round_over};
 
 use crate::congestion::{Congestion, Round};
@@ -14,6 +14,12 @@ use crate::scoreboard::{SLOTS, Scoreboard};
 use crate::timer::Timer;
 use arrayvec::ArrayVec;
 use std::marker::Model;
+
+/// How many new numbers a further Timeout lets out, to a station that never sent a Heard.
+const FURTHER: u64 = 4;
+
+/// How many numbers go out again if Timeouts follow each other and the window is full.
+const STOPPED: u64 = 8;
 
 /// Numbers to send again, in ascending order.
 pub type Numbers = ArrayVec<u64, SLOTS>;
@@ -136,8 +142,8 @@ impl CongestionControl {
     }
 
     /// Whether what was sent before a Timeout isn't covered yet, by a station that never sent a Heard: it may have kept
-    /// none of it. So it gets that again one by one, each as the one before is covered, and one new number, which makes a
-    /// station that knows Heards send one. Only a Timeout after news begins this: one before was perhaps too early.
+    /// none of it. So it gets that again one by one, each as the one before is covered, and new numbers, of which one makes
+    /// a station that knows Heards send one. Only a Timeout after news begins this: one before was perhaps too early.
     fn is_recovering(&self) -> bool
         ensures { result ≡ is_recovering self.now }
     {
@@ -213,6 +219,8 @@ impl CongestionControl {
         if self.is_timeout(at) {
             if self.news_at.is_some() {
                 self.recover = self.flight.reached.saturating_add(1);
+            } else if self.is_recovering() {
+                self.recover = self.flight.reached.saturating_add(FURTHER);
             }
             self.board.forget();
             self.timer.time_out();
@@ -317,16 +325,47 @@ impl CongestionControl {
     }
 
     /// Whether a number that was sent goes out again: a Timeout asks for it, or it isn't heard, although one that was
-    /// sent later is, and a quarter of the round trip has passed since (RFC 8985). A station that never sent a Heard may
-    /// have it ahead of a gap: it gets it again by Timeouts alone.
+    /// sent later is, and some time has passed since (RFC 8985), or Timeouts follow each other. A station that never
+    /// sent a Heard may have it ahead of a gap: it gets it again by Timeouts alone.
     fn is_missing(&self, number: u64, at: u64) -> bool
         ensures { result ≡ is_missing self.now at number }
     {
-        let slack = u64::from(self.timer.round_trip() / 4);
         self.is_due_number(number)
             || self.is_reporting
                 && !self.board.is_heard(number)
-                && self.board.is_passed(number, at, slack)
+                && (self.board.is_passed(number, at, self.slack()) || self.is_stopped(number))
+    }
+
+    /// How long a number may come after one that was sent later: a sixteenth of the round trip, and a quarter if the
+    /// link reorders.
+    fn slack(&self) -> u64
+        ensures { result ≡ slack self.now }
+    {
+        let trip = u64::from(self.timer.round_trip());
+        if self.board.is_reordered() {
+            trip / 4
+        } else {
+            trip / 16
+        }
+    }
+
+    /// Whether the window is full, so that no new number may go out, and its first number was never heard: it isn't
+    /// refused by a full station.
+    fn is_closed(&self) -> bool
+        ensures { result ≡ is_closed self.now }
+    {
+        u64::from(self.congestion.window) <= self.flight.sent_count()
+            && self.board.is_unheard(self.flight.covered.saturating_add(1))
+    }
+
+    /// Whether a number is one of the first of a window that is full, and nothing was heard between two Timeouts since it
+    /// was sent.
+    fn is_stopped(&self, number: u64) -> bool
+        ensures { result ≡ is_stopped self.now number }
+    {
+        self.is_closed()
+            && self.board.is_unanswered(number)
+            && number.saturating_sub(self.flight.covered) <= STOPPED
     }
 
     /// Whether a Timeout asks for a number.

@@ -1,10 +1,10 @@
 //! What was sent to a hop, and what was heard of it.
 
-ghost use Rattle.std.specs.Prelude.{◌≡◌, ◌+◌, ◌<◌, ◌^◌};
+ghost use Rattle.std.specs.Prelude.{◌≡◌, ◌+◌, ◌<◌, ◌^◌, ◌==◌};
 ghost use Rattle.rly_hop_pacing.specs.Scoreboards.{after_heard, after_sending, empty_board, forgotten, heard_if};
-ghost use Rattle.rly_hop_pacing.specs.Scoreboards.{heard_one, is_after_timeout};
-ghost use Rattle.rly_hop_pacing.specs.Scoreboards.{is_heard, is_passed, is_repeated_before, is_told};
-ghost use Rattle.rly_hop_pacing.specs.Scoreboards.{last_sent, last_sent_at, on_opening, slot_of, with_newest};
+ghost use Rattle.rly_hop_pacing.specs.Scoreboards.{heard_one, is_after_timeout, is_unanswered};
+ghost use Rattle.rly_hop_pacing.specs.Scoreboards.{is_heard, is_passed, is_reordered, is_repeated_before, is_told};
+ghost use Rattle.rly_hop_pacing.specs.Scoreboards.{last_sent, last_sent_at, on_opening, slot_of, with_late, with_newest};
 
 use rly_hop::marks;
 
@@ -49,6 +49,12 @@ pub(crate) struct Scoreboard {
     pub(crate) firsts: u64,
     /// The last sending before the last Timeout, by its order.
     pub(crate) lost: u64,
+    /// The last sending before the last Timeout at which nothing had been heard since the one before, by its order.
+    pub(crate) silent: u64,
+    /// The greatest number that was heard.
+    pub(crate) ahead: u64,
+    /// The epoch in which a number last came late, after a greater one; 0 if none did.
+    pub(crate) late: u64,
 }
 
 impl Scoreboard {
@@ -67,6 +73,9 @@ impl Scoreboard {
             news: 0,
             firsts: 0,
             lost: 0,
+            silent: 0,
+            ahead: 0,
+            late: 0,
         }
     }
 
@@ -98,6 +107,20 @@ impl Scoreboard {
         ensures { result ≡ is_after_timeout self.now number }
     {
         self.lost < self.slot(number).order
+    }
+
+    /// Whether a number was never heard.
+    pub(crate) fn is_unheard(&self, number: u64) -> bool
+        ensures { result ≡ ((last_sent self.now number).heard == 0) }
+    {
+        self.slot(number).heard == 0
+    }
+
+    /// Whether a number was last sent before a Timeout, and nothing was heard between that and the one before.
+    pub(crate) fn is_unanswered(&self, number: u64) -> bool
+        ensures { result ≡ is_unanswered self.now number }
+    {
+        self.slot(number).order <= self.silent
     }
 
     /// Whether a number was sent more than once, the last time at least `wait` ago.
@@ -177,6 +200,7 @@ impl Scoreboard {
             return;
         }
         self.note_newest(sent, at, trip);
+        self.note_late(sent);
         if sent.heard == 0 {
             self.news = self.news.saturating_add(1);
             self.firsts = self.firsts.saturating_add(u64::from(!sent.again));
@@ -201,10 +225,31 @@ impl Scoreboard {
         }
     }
 
+    /// A sending was heard. If it is the first of its number, which is less than one that was heard before, the link
+    /// reorders.
+    fn note_late(&mut self, sent: Sent)
+        ensures { self.new ≡ with_late self.old sent }
+    {
+        if !sent.again && sent.heard == 0 && sent.number < self.ahead {
+            self.late = self.epoch;
+        }
+        self.ahead = self.ahead.max(sent.number);
+    }
+
+    /// Whether a number came late in this epoch.
+    pub(crate) fn is_reordered(&self) -> bool
+        ensures { result ≡ is_reordered self.now }
+    {
+        self.late == self.epoch
+    }
+
     /// Forgets which numbers were heard, and the latest sending of them.
     pub(crate) fn forget(&mut self)
         ensures { self.new ≡ forgotten self.old }
     {
+        if self.newest == 0 {
+            self.silent = self.count;
+        }
         self.lost = self.count;
         self.epoch = self.epoch.saturating_add(1);
         self.newest = 0;

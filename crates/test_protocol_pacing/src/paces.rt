@@ -6,11 +6,11 @@ use crate::script::Act::{
 use crate::script::{PLAIN, Script, follow_all};
 use std::rt::HostRuntime;
 
-const MISSING: [Script<'static>; 6] = [
-    // A round trip is 400 ms, a quarter of it 100 ms. 3 was heard 400 ms after it was sent, and so 2 is missing 500 ms
+const MISSING: [Script<'static>; 7] = [
+    // A round trip is 400 ms, a sixteenth of it 25 ms. 3 was heard 400 ms after it was sent, and so 2 is missing 425 ms
     // after it was sent. The same for its repeat, since 4 was sent after it.
     (
-        "a number is missing a quarter of the round trip after a later one was heard, and so is its repeat",
+        "a number is missing a sixteenth of the round trip after a later one was heard, and so is its repeat",
         PLAIN,
         &[
             (0, Sends(&[1])),
@@ -18,14 +18,30 @@ const MISSING: [Script<'static>; 6] = [
             (400_000, Sends(&[2])),
             (410_000, Sends(&[3])),
             (810_000, Hears(1, &[3])),
-            (899_999, Again(&[])),
-            (900_000, Again(&[2])),
+            (824_999, Again(&[])),
+            (825_000, Again(&[2])),
             (900_000, Sends(&[2])),
             (900_000, Again(&[])),
             (910_000, Sends(&[4])),
             (1_310_000, Hears(1, &[3, 4])),
-            (1_399_999, Again(&[])),
-            (1_400_000, Again(&[2])),
+            (1_324_999, Again(&[])),
+            (1_325_000, Again(&[2])),
+        ],
+    ),
+    // 2 comes after 3, and was sent once. So 4 is missing 400 ms and a quarter of them after it was sent.
+    (
+        "where numbers come late, one is missing a quarter of the round trip after a later one was heard",
+        PLAIN,
+        &[
+            (0, Sends(&[1])),
+            (400_000, Custody(1)),
+            (400_000, Sends(&[2, 3])),
+            (800_000, Hears(1, &[3])),
+            (820_000, Custody(3)),
+            (820_000, Sends(&[4, 5])),
+            (1_220_000, Hears(3, &[5])),
+            (1_319_999, Again(&[])),
+            (1_320_000, Again(&[4])),
         ],
     ),
     // 7/8 of the round trip are 350 ms. 4 was sent before the repeat of 2.
@@ -44,7 +60,7 @@ const MISSING: [Script<'static>; 6] = [
             (1_500_000, Again(&[])),
         ],
     ),
-    // 4 should have been heard 350 ms after it was sent, and 100 ms after that it is missing.
+    // 4 should have been heard 350 ms after it was sent, and 25 ms after that it is missing.
     (
         "a repeat that is heard 7/8 of a round trip after it was sent is a later sending",
         PLAIN,
@@ -56,8 +72,8 @@ const MISSING: [Script<'static>; 6] = [
             (900_000, Again(&[2])),
             (900_000, Sends(&[4, 2])),
             (1_250_000, Hears(1, &[2, 3])),
-            (1_349_999, Again(&[])),
-            (1_350_000, Again(&[4])),
+            (1_274_999, Again(&[])),
+            (1_275_000, Again(&[4])),
         ],
     ),
     // The second Heard is of numbers that weren't sent. By the last one 4 was heard after 1,100 ms.
@@ -73,8 +89,8 @@ const MISSING: [Script<'static>; 6] = [
             (800_000, Hears(5, &[])),
             (1_500_000, Again(&[])),
             (1_500_000, Hears(2, &[4])),
-            (1_599_999, Again(&[])),
-            (1_600_000, Again(&[3])),
+            (1_524_999, Again(&[])),
+            (1_525_000, Again(&[3])),
         ],
     ),
     // The wait is 400 + 4 * 200 = 1,200 ms. After the Timeout 4 alone was heard, 400 ms after it was sent.
@@ -84,16 +100,16 @@ const MISSING: [Script<'static>; 6] = [
         &[
             (0, Sends(&[1, 2, 3])),
             (400_000, Hears(0, &[3])),
-            (499_999, Again(&[])),
-            (500_000, Again(&[1, 2])),
+            (424_999, Again(&[])),
+            (425_000, Again(&[1, 2])),
             (1_199_999, Again(&[1, 2])),
             (1_200_000, Again(&[1])),
             (1_200_000, Sends(&[1])),
             (1_200_000, Again(&[])),
             (1_200_000, Sends(&[4])),
             (1_600_000, Hears(0, &[4])),
-            (1_699_999, Again(&[2, 3])),
-            (1_700_000, Again(&[1, 2, 3])),
+            (1_624_999, Again(&[2, 3])),
+            (1_625_000, Again(&[1, 2, 3])),
         ],
     ),
     // Refused or kept, the hop's station has it.
@@ -243,12 +259,12 @@ const ROOMS: [Script<'static>; 4] = [
         &[
             (0, Sends(&[1, 2, 3, 4, 5, 6, 7, 8, 9, 10])),
             (400_000, Hears(0, &[2])),
-            (499_999, Room(1)),
-            (500_000, Room(2)),
-            (500_000, Sends(&[1])),
-            (500_000, Room(1)),
-            (500_000, Sends(&[11])),
-            (600_000, Room(0)),
+            (424_999, Room(1)),
+            (425_000, Room(2)),
+            (425_000, Sends(&[1])),
+            (425_000, Room(1)),
+            (425_000, Sends(&[11])),
+            (525_000, Room(0)),
         ],
     ),
     (

@@ -1,6 +1,6 @@
 //! When a Timeout comes, and what ends the doubling of its wait. Moments are in microseconds. The numbers were computed by hand from
 //! the rules of `rly_hop_pacing`.
-use crate::script::Act::{Again, Contact, Custody, Hears, Room, Sends, Spare, Unsent};
+use crate::script::Act::{self, Again, Contact, Custody, Hears, Room, Sends, Spare, Unsent};
 use crate::script::{PLAIN, Script, expect_done, follow_all, go_again, opened};
 use rly_hop_pacing::CongestionControl;
 use std::process::Abort;
@@ -209,8 +209,8 @@ const AFTER_TIMEOUTS: [Script<'static>; 9] = [
             (1_200_000, Again(&[1])),
             (1_200_000, Sends(&[1, 3])),
             (1_600_000, Hears(0, &[2, 3])),
-            (1_699_999, Again(&[])),
-            (1_700_000, Again(&[1])),
+            (1_624_999, Again(&[])),
+            (1_625_000, Again(&[1])),
             (1_700_000, Sends(&[1])),
             (2_699_999, Again(&[])),
             (2_700_000, Again(&[1])),
@@ -246,8 +246,8 @@ const AFTER_TIMEOUTS: [Script<'static>; 9] = [
             (10_000_000, Sends(&[1, 2, 3])),
             (10_000_000, Unsent(4, 0)),
             (10_400_000, Hears(0, &[3])),
-            (10_499_999, Again(&[])),
-            (10_500_000, Again(&[1, 2])),
+            (10_424_999, Again(&[])),
+            (10_425_000, Again(&[1, 2])),
         ],
     ),
 ];
@@ -256,6 +256,68 @@ const AFTER_TIMEOUTS: [Script<'static>; 9] = [
 #[test]
 fn after_timeouts(rt: HostRuntime) {
     follow_all(&rt, &AFTER_TIMEOUTS);
+}
+
+/// 2 and 3 go out again after a round trip of 400 ms, with a wait of 1,000 ms. The first Timeout comes after news.
+const SILENCE: &[(u64, Act<'static>)] = &[
+    (0, Sends(&[1])),
+    (400_000, Custody(1)),
+    (400_000, Sends(&[2, 3, 4])),
+    (800_000, Hears(1, &[4])),
+    (900_000, Sends(&[2, 3])),
+    (1_899_999, Again(&[])),
+    (1_900_000, Again(&[2])),
+    (1_900_000, Sends(&[2])),
+    (3_899_999, Again(&[])),
+    (3_900_000, Again(&[2, 3, 4])),
+    (3_900_000, Sends(&[2, 3, 4])),
+    (3_900_000, Again(&[])),
+];
+
+const UNANSWERED: [Script<'static>; 3] = [
+    (
+        "the first numbers go out again if the window is full",
+        (160, 3, false),
+        SILENCE,
+    ),
+    (
+        "the first number alone goes out again if the window isn't full",
+        PLAIN,
+        &[
+            (0, Sends(&[1])),
+            (400_000, Custody(1)),
+            (400_000, Sends(&[2, 3, 4])),
+            (800_000, Hears(1, &[4])),
+            (900_000, Sends(&[2, 3])),
+            (1_900_000, Again(&[2])),
+            (1_900_000, Sends(&[2])),
+            (3_900_000, Again(&[2])),
+        ],
+    ),
+    // The wait is 1,200 ms after the custody, and then twice as long.
+    (
+        "an end without Heards gets one new number by a Timeout after news, and four by a further one",
+        PLAIN,
+        &[
+            (0, Sends(&[1, 2, 3])),
+            (400_000, Custody(1)),
+            (1_600_000, Again(&[2])),
+            (1_600_000, Room(2)),
+            (1_600_000, Sends(&[2, 4])),
+            (1_600_000, Room(0)),
+            (4_000_000, Again(&[2])),
+            (4_000_000, Sends(&[2, 5, 6, 7])),
+            (4_000_000, Room(1)),
+            (4_000_000, Sends(&[8])),
+            (4_000_000, Room(0)),
+        ],
+    ),
+];
+
+/// Two Timeouts with nothing heard between them.
+#[test]
+fn unanswered(rt: HostRuntime) {
+    follow_all(&rt, &UNANSWERED);
 }
 
 /// As a contact opens, before anything is sent in it. The first sample of 400 ms makes a wait of 1.2 s.
