@@ -1,9 +1,11 @@
 """`rly serve` over loopback and on files, and what it reports."""
+import contextlib
 import itertools
 import random
 import resource
 import socket
 import threading
+import time
 
 from program import KEY, NO_DEVICE, SECONDS, Rows, plan_of
 
@@ -29,6 +31,19 @@ hop = 1
 DATA = bytes.fromhex("524c01010003000700000000000000010003000c41")
 LIMITED = bytes.fromhex("524c010400030007000000000000000100000013880003000c41")
 CUSTODY = bytes.fromhex("524c0102000700030000000000000001")
+
+# Data 3, ahead of a gap, and the Heard that it brings.
+AHEAD = bytes.fromhex("524c01010003000700000000000000030003000c41")
+HEARD = bytes.fromhex("524c01050007000300000000000000014000000000000000")
+
+# What station 9 sends as the next hop: Custody, Refused and Heard of number 1, one to another station, and no message.
+ANSWERS = [
+    bytes.fromhex("524c0102000900070000000000000001"),
+    bytes.fromhex("524c010300090007000000000000000106"),
+    bytes.fromhex("524c01050009000700000000000000014000000000000000"),
+    bytes.fromhex("524c0102000900080000000000000001"),
+    b"RL",
+]
 
 # What is told of a relay of 20 turns on a new small device.
 SERVED = """rly: serving station 7, 1 peers, 1 hops, device 320772 bytes, 0 of 16 live
@@ -84,8 +99,9 @@ LINKS = [
 
 # What the first report tells behind its moment, of a new device.
 FIRST = """\
-hop 1 taken 0 queued 0 flight 0 dropped 0 released 0 first 0 next 0 count 0 last 0 dropping no moment 0 contact closed wrong 0
-peer 1 heard 0 custody 0 refused 0 malformed 0 wrong 0
+hop 1 taken 0 queued 0 flight 0 dropped 0 released 0 first 0 next 0 count 0 last 0 dropping no moment 0 contact closed wrong 0 \
+heard 0 custody 0 refused 0 malformed 0 repeats 0 heards 0
+peer 1 heard 0 custody 0 refused 0 malformed 0 wrong 0 repeats 0 heards 0
 device seq 0 rounds 0 segments 0
 """
 
@@ -117,6 +133,27 @@ def greatest_plan(port):
 def last_of(text, word):
     """The last line that begins with a word, without its end."""
     return [line for line in text.splitlines() if line.startswith(word)][-1]
+
+
+def bound(port):
+    """A socket at a port, whose receives end after a while."""
+    end = socket.socket(socket.AF_INET, socket.SOCK_DGRAM)
+    end.bind(("127.0.0.1", port))
+    end.settimeout(SECONDS)
+    return end
+
+
+def sent_until(end, relay, packet, is_wanted):
+    """Sends a packet to a relay every 10 ms until something comes that is wanted, which is the answer."""
+    end.settimeout(0.01)
+    limit = time.monotonic() + SECONDS
+    while time.monotonic() < limit:
+        end.sendto(packet, relay)
+        with contextlib.suppress(TimeoutError):
+            heard = end.recv(64)
+            if is_wanted(heard):
+                return heard
+    return None
 
 
 class Neighbour(threading.Thread):
@@ -269,7 +306,7 @@ class Reports(Stations):
         self.assertEqual(neighbour.heard, CUSTODY)
         self.assertIn("taken 1 queued 1 flight 0", last_of(output, "hop 1 "))
         self.assertNotIn(" custody 0 ", last_of(output, "peer 1 "))
-        self.assertIn(" refused 0 malformed 0 wrong 0 last ", last_of(output, "peer 1 "))
+        self.assertRegex(last_of(output, "peer 1 "), r" refused 0 malformed 0 wrong 0 repeats \d+ heards 0 last \d+$")
         self.assertIn("seq 1 rounds 1 ", last_of(output, "device "))
 
     def test_wrong_tags_are_reported(self):
@@ -280,6 +317,29 @@ class Reports(Stations):
         with self.neighbour() as neighbour:
             output, _errors = self.served("--turns=200", "--report=1")
         self.assertIsNone(neighbour.heard)
-        self.assertIn(" wrong 0", last_of(output, "hop 1 "))
+        self.assertIn(" wrong 0 ", last_of(output, "hop 1 "))
         self.assertIn(" heard 0 custody 0 refused 0 malformed 0 wrong ", last_of(output, "peer 1 "))
-        self.assertNotIn(" wrong 0", last_of(output, "peer 1 "))
+        self.assertNotIn(" wrong 0 ", last_of(output, "peer 1 "))
+
+    def test_repeats_and_heards_are_reported(self):
+        """A peer sends a datagram again after its custody, and one ahead of a gap. The hop answers once a datagram came again."""
+        self.make_small("device")
+        contacts = "[[0, 4503599627370495]]\nresend = 20"
+        self.write("plan", PLAN.format(*self.ports).replace("[[100, 200], [300, 350]]", contacts))
+        run = self.start("serve", "device", "plan", "--turns=400", "--report=1")
+        with bound(self.ports[1]) as peer, bound(self.ports[3]) as hop:
+            relay = "127.0.0.1", self.ports[0]
+            self.assertEqual(sent_until(peer, relay, DATA, lambda packet: packet == CUSTODY), CUSTODY)
+            peer.sendto(DATA, relay)
+            self.assertEqual(sent_until(peer, relay, AHEAD, lambda packet: packet[3] == 5), HEARD)
+            first = hop.recv(64)
+            while hop.recv(64) != first:
+                pass
+            for packet in ANSWERS:
+                hop.sendto(packet, ("127.0.0.1", self.ports[2]))
+            output, errors = run.communicate(timeout=SECONDS)
+        self.assertEqual(run.returncode, 0, errors)
+        output = output.decode()
+        peer, hop = last_of(output, "peer 1 "), last_of(output, "hop 1 ")
+        self.assertRegex(peer, r" malformed 0 wrong 0 repeats [1-9]\d* heards [1-9]\d* last \d+$")
+        self.assertRegex(hop, r" wrong 0 heard 5 custody 1 refused 1 malformed 2 repeats [1-9]\d* heards 1 last \d+$")

@@ -8,6 +8,7 @@ use Rattle.rly_machine.specs.declared.command.Ask.TheVariants as ask
 use Rattle.rly_machine.specs.declared.command.Query.TheVariants.{Show}
 use Rattle.rly_machine.specs.declared.reply.HopStatus.{HopStatus}
 use Rattle.rly_plan.specs.ContactPlan.{ContactPlan, is_open, next_change}
+use Rattle.rly_daemon_report.specs.declared.link_counts.LinkReport.{LinkReport}
 use Rattle.rly_daemon_report.specs.declared.report.HopReport.{HopReport}
 
 -- Show of a hop
@@ -22,13 +23,13 @@ shows_of_hops count = map show_ask (range_with_len 1 count)
 abbrev pub show_asks : ContactPlan → List Ask
 show_asks plan = shows_of_hops (length plan.hops)
 
--- the report of a hop of a plan at a moment, with the answer to its Show, and with this many packets of a wrong tag
-abbrev pub hop_report : ContactPlan → HopId → ℕ → Result HopStatus Refusal → ℕ → HopReport
-hop_report plan hop moment answer wrong =
+-- the report of a hop of a plan at a moment, with the answer to its Show, and its link
+abbrev pub hop_report : ContactPlan → HopId → ℕ → Result HopStatus Refusal → LinkReport → HopReport
+hop_report plan hop moment answer link =
     record {
       hop = hop;
       answer = answer;
       is_open = is_open plan hop moment;
       change = next_change plan hop moment;
-      wrong = wrong;
+      link = link;
     }

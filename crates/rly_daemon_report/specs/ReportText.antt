@@ -7,7 +7,7 @@ use Rattle.rly_core.specs.Refusals.{refusal_line}
 use Rattle.rly_core.specs.declared.ids.HopId.{HopId}
 use Rattle.rly_core.specs.declared.refusal.Refusal.{Refusal}
 use Rattle.rly_machine.specs.declared.reply.HopStatus.{HopStatus}
-use Rattle.rly_daemon_report.specs.declared.peer_counts.PeerCounts.{PeerCounts}
+use Rattle.rly_daemon_report.specs.declared.link_counts.LinkReport.{LinkReport}
 use Rattle.rly_daemon_report.specs.declared.report.DeviceReport.{DeviceReport}
 use Rattle.rly_daemon_report.specs.declared.report.HopReport.{HopReport}
 use Rattle.rly_daemon_report.specs.declared.report.PeerReport.{PeerReport}
@@ -32,30 +32,38 @@ abbrev pub until_text : Option ℕ → List ℕ
 until_text None = []
 until_text (Some change) = codes " until " ++ decimal change
 
--- hop H .. contact open until MOMENT wrong N
-abbrev pub hop_line : HopReport → List ℕ
-hop_line h =
-    answer_text h.hop h.answer ++ codes " contact " ++ state_text h.is_open ++ until_text h.change
-    ++ codes " wrong " ++ decimal h.wrong ++ 10 ∷ []
-
 -- heard N custody N refused N malformed N
-unfoldable pub counts_text : PeerCounts → List ℕ
-counts_text c =
-    codes " heard " ++ decimal c.heard
-    ++ codes " custody " ++ decimal c.custody
-    ++ codes " refused " ++ decimal c.refused
-    ++ codes " malformed " ++ decimal c.malformed
+unfoldable pub packets_text : LinkReport → List ℕ
+packets_text l =
+    codes " heard " ++ decimal l.heard
+    ++ codes " custody " ++ decimal l.custody
+    ++ codes " refused " ++ decimal l.refused
+    ++ codes " malformed " ++ decimal l.malformed
 
--- the whole seconds since a peer was last received from, if it was
+-- wrong N
+abbrev pub wrong_text : LinkReport → List ℕ
+wrong_text l = codes " wrong " ++ decimal l.wrong
+
+-- repeats N heards N
+abbrev pub repeats_text : LinkReport → List ℕ
+repeats_text l = codes " repeats " ++ decimal l.repeats ++ codes " heards " ++ decimal l.heards
+
+-- the whole seconds since a neighbour was last received from, if it was
 abbrev pub last_text : ℕ → Option ℕ → List ℕ
 last_text moment None = []
 last_text moment (Some heard) = codes " last " ++ decimal ((moment - heard) / 1000000)
 
--- peer P .. wrong N last SECONDS
+-- hop H .. contact open until MOMENT wrong N heard N .. last SECONDS
+abbrev pub hop_line : ℕ → HopReport → List ℕ
+hop_line moment h =
+    answer_text h.hop h.answer ++ codes " contact " ++ state_text h.is_open ++ until_text h.change
+    ++ wrong_text h.link ++ packets_text h.link ++ repeats_text h.link ++ last_text moment h.link.last ++ 10 ∷ []
+
+-- peer P heard N .. wrong N .. last SECONDS
 abbrev pub peer_line : ℕ → PeerReport → List ℕ
 peer_line moment p =
-    codes "peer " ++ decimal p.peer.0 ++ counts_text p.counts ++ codes " wrong " ++ decimal p.wrong
-    ++ last_text moment p.counts.last ++ 10 ∷ []
+    codes "peer " ++ decimal p.peer.0 ++ packets_text p.link ++ wrong_text p.link ++ repeats_text p.link
+    ++ last_text moment p.link.last ++ 10 ∷ []
 
 -- device seq N rounds N segments N
 abbrev pub device_line : DeviceReport → List ℕ
@@ -64,8 +72,8 @@ device_line d =
     ++ codes " segments " ++ decimal d.segments ++ 10 ∷ []
 
 -- the hops and the peers
-abbrev pub hops_text : List HopReport → List ℕ
-hops_text hops = flat_map hop_line hops
+abbrev pub hops_text : ℕ → List HopReport → List ℕ
+hops_text moment hops = flat_map (hop_line moment) hops
 
 abbrev pub peers_text : ℕ → List PeerReport → List ℕ
 peers_text moment peers = flat_map (peer_line moment) peers
@@ -73,4 +81,4 @@ peers_text moment peers = flat_map (peer_line moment) peers
 -- the whole text
 abbrev pub text_for_report : ℕ → List HopReport → List PeerReport → DeviceReport → List ℕ
 text_for_report moment hops peers device =
-    moment_line moment ++ hops_text hops ++ peers_text moment peers ++ device_line device
+    moment_line moment ++ hops_text moment hops ++ peers_text moment peers ++ device_line device

@@ -5,6 +5,7 @@ ghost use Rattle.rly_plan.specs.Sound.{IsSoundPlan};
 ghost use Rattle.rly_daemon_report.specs.CountedReport.{hop_if, hop_reports, reported_seq, status_in_reply};
 ghost use Rattle.rly_daemon_report.specs.CountedReport.{text_of_answers};
 
+use crate::link_counts::LinkReport;
 use crate::report::{DeviceReport, HopReport, PeerReport, Report};
 use crate::report_text::text_of;
 use rly_core::{HopId, Refusal, limits};
@@ -21,10 +22,10 @@ const MAX_HOPS: usize = limits::MAX_HOPS as usize;
 /// The counts of a station since its start, with a slot for each possible peer and hop.
 #[derive(Clone, Copy, PartialEq, Eq)]
 pub struct Counted {
-    /// The counts of each peer, in the order of their ids.
+    /// Each peer, in the order of their ids.
     pub peers: [PeerReport; MAX_PEERS],
-    /// Packets of each hop dropped for a wrong tag, in the order of their ids.
-    pub wrong: [u64; MAX_HOPS],
+    /// The link of each hop, in the order of their ids.
+    pub hops: [LinkReport; MAX_HOPS],
     /// Rounds made.
     pub rounds: u64,
     /// Segments opened.
@@ -44,7 +45,7 @@ pub fn text_of_answers(
     requires each { length answers.now ≡ length plan.now.hops }
     ensures { IfOk result (λ text. string_bytes text ≡ text_of_answers plan.now moment answers.now counted.now) }
 {
-    let hops = hop_reports(alloc, plan, moment, answers, &counted.wrong)?;
+    let hops = hop_reports(alloc, plan, moment, answers, &counted.hops)?;
     let device = DeviceReport {
         seq: reported_seq(answers),
         rounds: counted.rounds,
@@ -75,16 +76,16 @@ fn hop_reports(
     plan: &Plan,
     moment: u64,
     answers: &[Answer],
-    wrong: &[u64; MAX_HOPS],
+    links: &[LinkReport; MAX_HOPS],
 ) -> Result<Vec<HopReport>, AllocError>
     requires { length answers.now ≤ 64 }
-    ensures { IfOk result (λ hops. hops.items ≡ hop_reports plan.now moment wrong.now answers.now) }
+    ensures { IfOk result (λ hops. hops.items ≡ hop_reports plan.now moment links.now answers.now) }
 {
     let mut hops = Vec::new(alloc);
     for index in 0..answers.len() {
         let hop = HopId(index as u16 + 1);
         let reply = &answers[index].reply;
-        add_hop(&mut hops, plan, hop, moment, reply, wrong[index])?;
+        add_hop(&mut hops, plan, hop, moment, reply, links[index])?;
     }
     Ok(hops)
 }
@@ -96,13 +97,13 @@ fn add_hop(
     hop: HopId,
     moment: u64,
     reply: &Reply,
-    wrong: u64,
+    link: LinkReport,
 ) -> Result<(), AllocError>
     ensures { OnOk result
-        (hops.new.items ≡ hops.old.items ++ hop_if plan.now moment wrong hop.0 (status_in_reply reply.now)) }
+        (hops.new.items ≡ hops.old.items ++ hop_if plan.now moment link hop.0 (status_in_reply reply.now)) }
 {
     if let Some(answer) = status_in_reply(reply) {
-        hops.push(HopReport::at(plan, hop, moment, answer, wrong))?;
+        hops.push(HopReport::at(plan, hop, moment, answer, link))?;
     }
     Ok(())
 }

@@ -1,9 +1,7 @@
-ghost use Rattle.std.specs.Prelude.{◌≡◌, option_copied};
-ghost use Rattle.std.specs.Option.{option_map};
-ghost use Rattle.rly_hop.specs.Payloads.{message_bytes};
-ghost use Rattle.rly_daemon_report.specs.Counts.{after_heard, after_sent, counted_if, message_in, no_counts};
+ghost use Rattle.rly_daemon_report.specs.Counts.{after_heard, after_sent, no_counts};
 
-use rly_hop::{Message, StationId, data_number, read_message};
+use crate::counting::{counted_if, greatest_with, is_repeat, message_in};
+use rly_hop::{Message, StationId, custody_number, data_number};
 
 /// The counts of a peer's link since the station started. Each count stops at its last value of 64 bits.
 #[derive(Clone, Copy, PartialEq, Eq)]
@@ -16,6 +14,10 @@ pub struct PeerCounts {
     pub refused: u64,
     /// Packets received that hand over no datagram from the peer to this station.
     pub malformed: u64,
+    /// Data received from the peer for this station whose number wasn't above `covered`.
+    pub repeats: u64,
+    /// The greatest number that custody was sent for: 0 before the first custody.
+    pub covered: u64,
     /// The moment at which the last packet was received, in microseconds since the Unix epoch.
     pub last: Option<u64>,
 }
@@ -32,6 +34,8 @@ impl PeerCounts {
             custody: 0,
             refused: 0,
             malformed: 0,
+            repeats: 0,
+            covered: 0,
             last: None,
         }
     }
@@ -40,41 +44,23 @@ impl PeerCounts {
     pub fn hear(&mut self, own: StationId, peer: StationId, packet: &[u8], moment: u64)
         ensures { self.new ≡ after_heard own peer moment packet.now self.old }
     {
-        let is_wanted = data_number(packet, peer, own).is_some();
+        let number = data_number(packet, peer, own);
+        let is_wanted = number.is_some();
         self.heard = counted_if(true, self.heard);
         self.malformed = counted_if(!is_wanted, self.malformed);
+        self.repeats = counted_if(is_repeat(self.covered, number), self.repeats);
         self.last = Some(moment);
     }
 
-    /// Counts a packet that was sent to the peer, if it is a custody or a refusal.
-    pub fn send(&mut self, packet: &[u8])
-        ensures { self.new ≡ after_sent packet.now self.old }
+    /// Counts a packet sent to a peer, if it is a custody or a refusal.
+    pub fn send(&mut self, own: StationId, peer: StationId, packet: &[u8])
+        ensures { self.new ≡ after_sent own peer packet.now self.old }
     {
         match message_in(packet) {
             Some(Message::Custody { .. }) => self.custody = counted_if(true, self.custody),
             Some(Message::Refused { .. }) => self.refused = counted_if(true, self.refused),
             Some(Message::Data { .. }) | Some(Message::Heard { .. }) | None => {}
         }
-    }
-}
-
-/// The count, incremented if this is true, up to its last value.
-fn counted_if(is_one: bool, count: u64) -> u64
-    ensures { result ≡ counted_if is_one count }
-{
-    if is_one {
-        count.saturating_add(1)
-    } else {
-        count
-    }
-}
-
-/// The message in a packet, if it is one.
-fn message_in(packet: &[u8]) -> Option<Message<&[u8]>>
-    ensures { option_map message_bytes result ≡ message_in packet.now }
-{
-    match read_message(packet) {
-        Ok(message) => Some(message),
-        Err(_) => None,
+        self.covered = greatest_with(self.covered, custody_number(packet, own, peer));
     }
 }

@@ -1,4 +1,4 @@
-use crate::peer_counts::PeerCounts;
+use crate::link_counts::LinkReport;
 use rly_core::{HopId, PeerId, Refusal};
 use rly_machine::HopStatus;
 use rly_plan::Plan;
@@ -14,30 +14,30 @@ pub struct HopReport {
     pub is_open: bool,
     /// The moment at which its contact next opens or closes, in microseconds since the Unix epoch, if it does.
     pub change: Option<u64>,
-    /// Packets dropped for a wrong tag: 0 if its link has no key.
-    pub wrong: u64,
+    /// Its link.
+    pub link: LinkReport,
 }
 
 impl HopReport {
     ghost use Rattle.std.specs.Prelude.{◌≡◌};
     ghost use Rattle.rly_daemon_report.specs.Hops.{hop_report};
 
-    /// The report of a hop of a plan at a moment, with the answer to its Show.
+    /// The report of a hop of a plan at a moment, with the answer to its Show, and its link.
     pub fn at(
         plan: &Plan,
         hop: HopId,
         moment: u64,
         answer: Result<HopStatus, Refusal>,
-        wrong: u64,
+        link: LinkReport,
     ) -> HopReport
-        ensures { result ≡ hop_report plan.now hop moment answer wrong }
+        ensures { result ≡ hop_report plan.now hop moment answer link }
     {
         HopReport {
             hop,
             answer,
             is_open: plan.is_open(hop, moment),
             change: plan.next_change(hop, moment),
-            wrong,
+            link,
         }
     }
 }
@@ -47,10 +47,8 @@ impl HopReport {
 pub struct PeerReport {
     /// Its id.
     pub peer: PeerId,
-    /// The counts of its link.
-    pub counts: PeerCounts,
-    /// Packets dropped for a wrong tag: 0 if its link has no key.
-    pub wrong: u64,
+    /// Its link.
+    pub link: LinkReport,
 }
 
 /// The device in a report.

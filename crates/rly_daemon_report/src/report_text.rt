@@ -1,9 +1,9 @@
 ghost use Rattle.std.specs.Prelude.{◌≡◌, ◌++◌, IfOk, OnOk, string_bytes};
 ghost use Rattle.rly_daemon_report.specs.ReportText.{answer_text, device_line, hop_line, hops_text, last_text};
-ghost use Rattle.rly_daemon_report.specs.ReportText.{moment_line, peer_line, peers_text, state_text, text_for_report};
-ghost use Rattle.rly_daemon_report.specs.ReportText.{until_text};
+ghost use Rattle.rly_daemon_report.specs.ReportText.{moment_line, peer_line, peers_text, repeats_text, state_text};
+ghost use Rattle.rly_daemon_report.specs.ReportText.{text_for_report, until_text};
 
-use crate::peer_counts::PeerCounts;
+use crate::link_counts::LinkReport;
 use crate::report::{DeviceReport, HopReport, PeerReport, Report};
 use rly_daemon_reply::StatusLine;
 use std::alloc::{AllocError, Global};
@@ -17,7 +17,7 @@ pub fn text_of(alloc: Global, report: &Report<'_>) -> Result<String, AllocError>
 {
     let mut text = String::new(alloc);
     write_moment(&mut text, report.moment)?;
-    write_hops(&mut text, report.hops)?;
+    write_hops(&mut text, report.moment, report.hops)?;
     write_peers(&mut text, report.moment, report.peers)?;
     write_device(&mut text, report.device)?;
     Ok(text)
@@ -31,26 +31,30 @@ fn write_moment(text: &mut String, moment: u64) -> Result<(), AllocError>
     Ok(())
 }
 
-/// Appends the hops' lines.
-fn write_hops(text: &mut String, hops: &[HopReport]) -> Result<(), AllocError>
-    ensures { OnOk result (string_bytes text.new ≡ string_bytes text.old ++ hops_text hops.now) }
+/// Appends the hops' lines, at the report's moment.
+fn write_hops(text: &mut String, moment: u64, hops: &[HopReport]) -> Result<(), AllocError>
+    ensures { OnOk result (string_bytes text.new ≡ string_bytes text.old ++ hops_text moment hops.now) }
 {
     for hop in hops {
-        write_hop(text, hop)?;
+        write_hop(text, moment, hop)?;
     }
     Ok(())
 }
 
 /// Appends a hop's line.
-fn write_hop(text: &mut String, hop: &HopReport) -> Result<(), AllocError>
-    ensures { OnOk result (string_bytes text.new ≡ string_bytes text.old ++ hop_line hop.now) }
+fn write_hop(text: &mut String, moment: u64, hop: &HopReport) -> Result<(), AllocError>
+    ensures { OnOk result (string_bytes text.new ≡ string_bytes text.old ++ hop_line moment hop.now) }
 {
     write_answer(text, hop)?;
     let state = state_text(hop.is_open);
     write!(text, " contact {state}")?;
     write_until(text, hop.change)?;
-    let wrong = hop.wrong;
-    writeln!(text, " wrong {wrong}")?;
+    let link = &hop.link;
+    let wrong = link.wrong;
+    write!(text, " wrong {wrong}{}", Packets { link })?;
+    write_repeats(text, link)?;
+    write_last(text, moment, link.last)?;
+    writeln!(text)?;
     Ok(())
 }
 
@@ -101,41 +105,51 @@ fn write_peers(text: &mut String, moment: u64, peers: &[PeerReport]) -> Result<(
 fn write_peer(text: &mut String, moment: u64, peer: &PeerReport) -> Result<(), AllocError>
     ensures { OnOk result (string_bytes text.new ≡ string_bytes text.old ++ peer_line moment peer.now) }
 {
-    let (id, wrong) = (peer.peer.0, peer.wrong);
-    let counts = &peer.counts;
-    write!(text, "peer {id}{} wrong {wrong}", LinkCounts { counts })?;
-    write_last(text, moment, counts.last)?;
+    let (id, link) = (peer.peer.0, &peer.link);
+    let wrong = link.wrong;
+    write!(text, "peer {id}{} wrong {wrong}", Packets { link })?;
+    write_repeats(text, link)?;
+    write_last(text, moment, link.last)?;
     writeln!(text)?;
     Ok(())
 }
 
-/// The counts of a peer's link. It displays as these counts, each after its name.
+/// The packets of a link. It displays as their counts, each after its name.
 #[derive(Drop)]
-struct LinkCounts<'a> {
-    counts: &'a PeerCounts,
+struct Packets<'a> {
+    link: &'a LinkReport,
 }
 
-impl fmt::Display for LinkCounts<'_> {
+impl fmt::Display for Packets<'_> {
     ghost use Rattle.std.specs.Prelude.{Some};
-    ghost use Rattle.rly_daemon_report.specs.ReportText.{counts_text};
+    ghost use Rattle.rly_daemon_report.specs.ReportText.{packets_text};
 
-    ghost output = { λ link. Some (counts_text link.counts.now) };
+    ghost output = { λ packets. Some (packets_text packets.link.now) };
 
-    #[tactic(auto, unfolding(crate::specs::ReportText::counts_text))]
+    #[tactic(auto, unfolding(crate::specs::ReportText::packets_text))]
     fn fmt<W: fmt::Write>(&self, f: &mut fmt::Formatter<W>) -> fmt::Result {
-        let PeerCounts {
+        let LinkReport {
             heard,
             custody,
             refused,
             malformed,
             ..
-        } = *self.counts;
+        } = *self.link;
         write!(f, " heard {heard} custody {custody} refused {refused}")?;
         write!(f, " malformed {malformed}")
     }
 }
 
-/// Appends the whole seconds since a peer was last received from, if it was.
+/// Appends the repeats and the Heards of a link.
+fn write_repeats(text: &mut String, link: &LinkReport) -> Result<(), AllocError>
+    ensures { OnOk result (string_bytes text.new ≡ string_bytes text.old ++ repeats_text link.now) }
+{
+    let (repeats, heards) = (link.repeats, link.heards);
+    write!(text, " repeats {repeats} heards {heards}")?;
+    Ok(())
+}
+
+/// Appends the whole seconds since a neighbour was last received from, if it was.
 fn write_last(text: &mut String, moment: u64, last: Option<u64>) -> Result<(), AllocError>
     ensures { OnOk result (string_bytes text.new ≡ string_bytes text.old ++ last_text moment last) }
 {

@@ -1,29 +1,26 @@
-//! A link with a peer that counts its packets.
+//! A link with a neighbour that counts its packets.
 
 ghost use Rattle.std.specs.Prelude.{◌≡◌, ◌≤◌, ◌++◌, ◌∷◌, [], Some, None, IfOk, IfSome, OnErr, OnOk, false, length};
 ghost use Rattle.std.specs.Prelude.{true, ℕ};
-ghost use Rattle.rly_daemon_reporter.specs.CountedLink.{counts_of, heard_then, new_counted};
+ghost use Rattle.rly_daemon_reporter.specs.CountedLink.{counts_of, first_counts, heard_then, new_counted};
 ghost use Rattle.rly_link.specs.LinkHistory.{FailuresRose, TellsMore, new_hearing, packet_in, packet_of};
 
-use crate::tally::Tally;
 use http_server::Log;
-use rly_core::PeerId;
-use rly_daemon_report::{PeerCounts, PeerReport};
+use rly_daemon_report::{HopCounts, LinkCounts, PeerCounts};
 use rly_hop::StationId;
-use rly_link::{Link, LinkFault, PacketLog, bytes_in};
-use std::alloc::Global;
+use rly_link::{Link, LinkFault, PacketLog, Worker, bytes_in};
 use std::marker::Model;
-use std::sync::Arc;
 use std::time::{Clock, Duration};
 
-/// A link with a peer over another link, which counts its packets. The model: the link below, both stations, and
-/// the packets received, with their moments, and sent, in order.
+/// The link of a worker over another link, which counts its packets. The model: the link below, the worker, this
+/// station and the neighbour's, and the packets received, with their moments, and sent, in order.
 #[derive(Drop)]
 pub struct CountedLink<L: Link, C: Clock + Drop> {
     link: L,
+    worker: Worker,
     own: StationId,
     station: StationId,
-    counts: PeerCounts,
+    counts: LinkCounts,
     clock: C,
     events: Log<PacketLog, Option<u64>>,
 }
@@ -34,21 +31,34 @@ impl<L: Link, C: Clock + Drop> Model for CountedLink<L, C> {
 
     ghost Value = { CountedView L };
 
-    ghost view = { λ c. record { link = c.link; own = c.own; station = c.station; events = events_in c.events } };
+    ghost view = { λ c. record {
+      link = c.link;
+      worker = c.worker;
+      own = c.own;
+      station = c.station;
+      events = events_in c.events;
+    } };
 
-    ghost invariant = { λ c. c.counts ≡ counts_of c.own c.station (events_in c.events) };
+    ghost invariant = { λ c. c.counts ≡ counts_of c.worker c.own c.station (events_in c.events) };
 }
 
 impl<L: Link, C: Clock + Drop> CountedLink<L, C> {
-    /// This link with a peer, which counts packets from now on.
-    pub fn new(link: L, own: StationId, station: StationId, clock: C) -> CountedLink<L, C>
-        ensures { result ≡ new_counted link own station }
+    /// This link of a worker between this station and the neighbour's, which counts packets from now on.
+    pub fn new(
+        link: L,
+        worker: Worker,
+        own: StationId,
+        station: StationId,
+        clock: C,
+    ) -> CountedLink<L, C>
+        ensures { result ≡ new_counted link worker own station }
     {
         CountedLink {
             link,
+            worker,
             own,
             station,
-            counts: PeerCounts::new(),
+            counts: first_counts(worker),
             clock,
             events: Log::new(),
         }
@@ -61,9 +71,16 @@ impl<L: Link, C: Clock + Drop> CountedLink<L, C> {
         &self.link
     }
 
+    /// Its worker.
+    pub fn worker(&self) -> Worker
+        ensures { result ≡ self.now.worker }
+    {
+        self.worker
+    }
+
     /// The counts: each packet that the link below returned, and each that was passed to it to be sent.
-    pub fn counts(&self) -> PeerCounts
-        ensures { result ≡ counts_of self.now.own self.now.station self.now.events }
+    pub fn counts(&self) -> LinkCounts
+        ensures { result ≡ counts_of self.now.worker self.now.own self.now.station self.now.events }
     {
         self.counts
     }
@@ -134,13 +151,23 @@ impl<L: Link, C: Clock + Drop> Link for CountedLink<L, C> {
         // It is counted, even if the send fails.
         ensures counted { self.new.events ≡ self.old.events ++ (packet.now, None) ∷ [] }
     {
-        self.counts.send(packet);
+        self.counts.send(self.own, self.station, packet);
         self.events = self.events.and(&bytes_in(packet), &None);
         self.link.send(packet)
     }
 
     fn failures(&self) -> u64 {
         self.link.failures()
+    }
+}
+
+/// The counts of a worker's link before its first packet.
+fn first_counts(worker: Worker) -> LinkCounts
+    ensures { result ≡ first_counts worker }
+{
+    match worker {
+        Worker::Receiver(_) => LinkCounts::Peer(PeerCounts::new()),
+        Worker::Sender(_) => LinkCounts::Hop(HopCounts::new()),
     }
 }
 

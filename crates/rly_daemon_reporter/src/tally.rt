@@ -1,8 +1,9 @@
 //! The counts of a station's workers, in atomics that its reporter reads.
 
 use crate::counters::Counters;
-use rly_core::{HopId, PeerId};
-use rly_daemon_report::{Counted, PeerCounts, PeerReport};
+use rly_core::PeerId;
+use rly_daemon_report::{Counted, LinkReport, PeerReport};
+use rly_link::Worker;
 use rly_plan::Plan;
 use std::alloc::{AllocError, Global};
 use std::sync::Arc;
@@ -12,54 +13,45 @@ use std::sync::atomic::{AtomicU64, Ordering};
 /// state nothing about values that another thread reads.
 #[derive(Drop)]
 pub struct Tally {
-    peers: Vec<PeerTally>,
-    wrong: Vec<AtomicU64>,
+    peers: Vec<LinkTally>,
+    hops: Vec<LinkTally>,
     rounds: AtomicU64,
     segments: AtomicU64,
 }
 
-/// The counts of a peer's link.
+/// The counts of a neighbour's link.
 #[derive(Drop)]
-struct PeerTally {
+struct LinkTally {
     heard: AtomicU64,
     custody: AtomicU64,
     refused: AtomicU64,
     malformed: AtomicU64,
+    wrong: AtomicU64,
+    repeats: AtomicU64,
+    heards: AtomicU64,
     /// The moment at which the last packet was received, if one was.
     last: AtomicU64,
-    wrong: AtomicU64,
 }
 
 impl Tally {
     /// A new tally for a plan, all zero.
     pub fn new(alloc: Global, plan: &Plan) -> Result<Tally, AllocError> {
-        let mut peers = Vec::new(alloc);
-        for _peer in 0..plan.peer_count() {
-            peers.push(PeerTally::new())?;
-        }
-        let mut wrong = Vec::new(alloc);
-        for _hop in 0..plan.hop_count() {
-            wrong.push(AtomicU64::new(0))?;
-        }
         Ok(Tally {
-            peers,
-            wrong,
+            peers: new_links(alloc, plan.peer_count())?,
+            hops: new_links(alloc, plan.hop_count())?,
             rounds: AtomicU64::new(0),
             segments: AtomicU64::new(0),
         })
     }
 
-    /// Stores the counts of a peer's link.
-    pub fn set_peer(&self, report: &PeerReport) {
-        if let Some(peer) = self.peers.get(place_of(report.peer.0)) {
-            peer.set(&report.counts, report.wrong);
-        }
-    }
-
-    /// Stores the number of a hop's packets with a wrong tag.
-    pub fn set_wrong(&self, hop: HopId, wrong: u64) {
-        if let Some(word) = self.wrong.get(place_of(hop.0)) {
-            word.store(wrong, Ordering::SeqCst);
+    /// Stores the counts of a worker's link.
+    pub fn set_link(&self, worker: Worker, report: &LinkReport) {
+        let link = match worker {
+            Worker::Receiver(peer) => self.peers.get(place_of(peer.0)),
+            Worker::Sender(hop) => self.hops.get(place_of(hop.0)),
+        };
+        if let Some(link) = link {
+            link.set(report);
         }
     }
 
@@ -68,65 +60,65 @@ impl Tally {
         self.rounds.store(rounds, Ordering::SeqCst);
         self.segments.store(segments, Ordering::SeqCst);
     }
+}
 
-    /// The counts of a peer.
-    fn peer(&self, peer: PeerId) -> PeerReport {
-        match self.peers.get(place_of(peer.0)) {
-            Some(tally) => tally.report(peer),
-            None => PeerReport {
-                peer,
-                counts: PeerCounts::new(),
-                wrong: 0,
-            },
-        }
+/// The counts of this many links, all zero.
+fn new_links(alloc: Global, count: usize) -> Result<Vec<LinkTally>, AllocError> {
+    let mut links = Vec::new(alloc);
+    for _link in 0..count {
+        links.push(LinkTally::new())?;
     }
+    Ok(links)
+}
 
-    /// The number of a hop's packets with a wrong tag.
-    fn wrong(&self, hop: HopId) -> u64 {
-        match self.wrong.get(place_of(hop.0)) {
-            Some(word) => word.load(Ordering::SeqCst),
-            None => 0,
-        }
+/// The report of the link at a place: all zero if there is none.
+fn report_at(links: &[LinkTally], place: usize) -> LinkReport {
+    match links.get(place) {
+        Some(link) => link.report(),
+        None => LinkReport::new(),
     }
 }
 
-impl PeerTally {
-    fn new() -> PeerTally {
-        PeerTally {
+impl LinkTally {
+    fn new() -> LinkTally {
+        LinkTally {
             heard: AtomicU64::new(0),
             custody: AtomicU64::new(0),
             refused: AtomicU64::new(0),
             malformed: AtomicU64::new(0),
-            last: AtomicU64::new(0),
             wrong: AtomicU64::new(0),
+            repeats: AtomicU64::new(0),
+            heards: AtomicU64::new(0),
+            last: AtomicU64::new(0),
         }
     }
 
     /// The moment of a received packet is stored before its count.
-    fn set(&self, counts: &PeerCounts, wrong: u64) {
-        if let Some(moment) = counts.last {
+    fn set(&self, report: &LinkReport) {
+        if let Some(moment) = report.last {
             self.last.store(moment, Ordering::SeqCst);
         }
-        self.heard.store(counts.heard, Ordering::SeqCst);
-        self.custody.store(counts.custody, Ordering::SeqCst);
-        self.refused.store(counts.refused, Ordering::SeqCst);
-        self.malformed.store(counts.malformed, Ordering::SeqCst);
-        self.wrong.store(wrong, Ordering::SeqCst);
+        self.heard.store(report.heard, Ordering::SeqCst);
+        self.custody.store(report.custody, Ordering::SeqCst);
+        self.refused.store(report.refused, Ordering::SeqCst);
+        self.malformed.store(report.malformed, Ordering::SeqCst);
+        self.wrong.store(report.wrong, Ordering::SeqCst);
+        self.repeats.store(report.repeats, Ordering::SeqCst);
+        self.heards.store(report.heards, Ordering::SeqCst);
     }
 
-    fn report(&self, peer: PeerId) -> PeerReport {
+    fn report(&self) -> LinkReport {
         let heard = self.heard.load(Ordering::SeqCst);
         let moment = self.last.load(Ordering::SeqCst);
-        PeerReport {
-            peer,
-            counts: PeerCounts {
-                heard,
-                custody: self.custody.load(Ordering::SeqCst),
-                refused: self.refused.load(Ordering::SeqCst),
-                malformed: self.malformed.load(Ordering::SeqCst),
-                last: if heard > 0 { Some(moment) } else { None },
-            },
+        LinkReport {
+            heard,
+            custody: self.custody.load(Ordering::SeqCst),
+            refused: self.refused.load(Ordering::SeqCst),
+            malformed: self.malformed.load(Ordering::SeqCst),
             wrong: self.wrong.load(Ordering::SeqCst),
+            repeats: self.repeats.load(Ordering::SeqCst),
+            heards: self.heards.load(Ordering::SeqCst),
+            last: if heard > 0 { Some(moment) } else { None },
         }
     }
 }
@@ -142,17 +134,24 @@ impl Counters for Arc<Tally, Global> {
     ghost seen = { λ _. None };
 
     fn look(&mut self) -> Counted {
-        let mut peers = [self.peer(PeerId(1)); 64];
+        let unused = PeerReport {
+            peer: PeerId(1),
+            link: LinkReport::new(),
+        };
+        let mut peers = [unused; 64];
         for (place, report) in peers.iter_mut().enumerate() {
-            *report = self.peer(PeerId(place as u16 + 1));
+            *report = PeerReport {
+                peer: PeerId(place as u16 + 1),
+                link: report_at(&self.peers, place),
+            };
         }
-        let mut wrong = [0; 64];
-        for (place, count) in wrong.iter_mut().enumerate() {
-            *count = self.wrong(HopId(place as u16 + 1));
+        let mut hops = [LinkReport::new(); 64];
+        for (place, report) in hops.iter_mut().enumerate() {
+            *report = report_at(&self.hops, place);
         }
         Counted {
             peers,
-            wrong,
+            hops,
             rounds: self.rounds.load(Ordering::SeqCst),
             segments: self.segments.load(Ordering::SeqCst),
         }

@@ -1,11 +1,10 @@
 -- A link that publishes its counts is Send if the link below and the clock are.
 use denote.RattleType.{RattleType}
-use denote.Param.Send.{AllSend, EachSend, IsSend, IsSync, enum_send, recorded_send, sendable, struct_send, view_send}
+use denote.Param.Send.{AllSend, IsSend, IsSync, recorded_send, sendable, struct_send, view_send}
 use denote.Struct.Declared.{Declared, shape}
 use denote.Struct.Field.{rows}
 use denote.Struct.Struct.{Struct}
-use denote.Enum.Declared as E
-use denote.Enum.Enum.{Enum}
+use Rattle.std.specs.Prelude.{None}
 use Rattle.std.proofs.Crossing.{Arc-send, crosses}
 use Rattle.http_server.proofs.log.Log.TheSendSync.{the_send}
 use Rattle.rly_link.specs.declared.link.Link as Link
@@ -25,7 +24,10 @@ counted_send L C g l c =
           search (sendable, crosses) depth 20,
           (
             search (sendable, crosses) depth 20,
-            (c, (search (sendable, the_send) depth 20, tt)),
+            (
+              search (sendable, crosses) depth 60,
+              (c, (search (sendable, the_send) depth 20, tt)),
+            ),
           ),
         ),
       ),
@@ -38,12 +40,13 @@ tally_send = search (sendable, crosses) depth 80
 tally_sync : IsSync Tally.the_row
 tally_sync = search (sendable, crosses) depth 80
 
-pub tallied_send : (L C : RattleType) (g : Link.Ghosts L.Denot) → IsSend L → IsSend C → IsSend (Tallied.the_row L C g)
-tallied_send L C g l c =
-    let link : E.Declared = Tallied.the_type L C g in
+-- no histories of a link: whether it is Send has nothing to do with them
+pub no_ghosts : (L : RattleType) → Link.Ghosts L.Denot
+no_ghosts L = record { heard = λ l. None; sent = λ l. None; failed = λ l. 0 }
+
+pub tallied_send : (L C : RattleType) → IsSend L → IsSend C → IsSend (Tallied.the_row L C (no_ghosts L))
+tallied_send L C l c =
+    let link : Declared = Tallied.the_type L C (no_ghosts L) in
     let tally = Arc-send Tally.the_row tally_send tally_sync in
-    let each : EachSend (E.shape link).variants = (
-      (counted_send L C g l c, (search (sendable, crosses) depth 20, (tally, tt))),
-      ((l, (search (sendable, crosses) depth 20, (tally, tt))), tt),
-    ) in
-    recorded_send (Enum (E.shape link)) link.D link.to link.to_one (enum_send (E.shape link) each)
+    let fields : AllSend (rows link.parts) = (counted_send L C (no_ghosts L) l c, (tally, tt)) in
+    recorded_send (Struct (shape link)) link.D link.to link.to_one (struct_send (shape link) fields)

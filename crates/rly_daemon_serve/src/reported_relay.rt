@@ -1,20 +1,20 @@
 //! The running relay with a reporter in parallel.
 
-ghost use Rattle.std.specs.Prelude.{◌≡◌, ◌≤◌, ◌+◌, ◌∷◌, ◌++◌, [], Err, IfOk, IfSome, OnOk, false, length, map, true};
+ghost use Rattle.std.specs.Prelude.{◌≡◌, ◌≤◌, ◌+◌, ◌∷◌, ◌++◌, [], Err, IfOk, OnOk, false, length, map, true};
 ghost use Rattle.std.specs.List.{list_all};
 ghost use Rattle.rly_core.specs.declared.refusal.Refusal.TheVariants as refusal;
 ghost use Rattle.rly_station.specs.declared.serve_fault.ServeFault.TheVariants as fault;
 ghost use Rattle.rly_station.specs.declared.file_fault.Cause.TheVariants as cause;
 ghost use Rattle.rly_station.specs.Keys.{AreKeysOf};
-ghost use Rattle.rly_daemon_serve.specs.Helpers.{post_below};
+ghost use Rattle.rly_daemon_serve.specs.Helpers.{own_station, post_below, station_of};
 ghost use Rattle.rly_daemon_serve.specs.ReportedRelay.{HasReports};
 ghost use Rattle.rly_daemon_serve.specs.ServedRelay.{FitsPlan, HasRunOver, LacksRoom};
 ghost use Rattle.rly_link_udp.specs.Duties.{duties, duty_over};
 ghost use Rattle.rly_station.specs.Workers.{workers_of};
 ghost use Rattle.rly_hop.specs.Spelling.{longest_message};
-ghost use Rattle.rly_plan.specs.ContactPlan.{peer_at};
 ghost use Rattle.rly_plan.specs.Sound.{IsSoundPlan};
-ghost use Rattle.rly_daemon_reporter.specs.TalliedLink.{link_below};
+ghost use Rattle.rly_daemon_reporter.specs.CountedLink.{new_counted};
+ghost use Rattle.rly_daemon_reporter.specs.TalliedLink.{counted_below, link_below};
 ghost use Rattle.rly_threads.specs.Relay.{IsRelayEnd, has_run_out};
 ghost use Rattle.rly_line.specs.EndViews.{names_of};
 ghost use Rattle.rly_line.specs.ResponderView.{IsAnsweredBy};
@@ -22,13 +22,12 @@ ghost use Rattle.rly_daemon_reporter.specs.ReporterAtSeat.{HasWatchedAt};
 
 use crate::served_relay::{disk_of, outcome_of, ready_posts, report_start};
 use crate::wall_report_clock::WallReportClock;
-use rly_core::PeerId;
 use rly_daemon_reporter::{Counters, ReportClock, Reported, TalliedLink, Tally, run_reported};
 use rly_disk::Disk;
 use rly_hop::StationId;
 use rly_journal::Journal;
 use rly_link::{Link, Post, Turn, Waker, Worker};
-use rly_link_auth::TaggedLink;
+use rly_link_auth::MeteredLink;
 use rly_link_udp::{NeighbourLink, SenderWaker, WallClock};
 use rly_plan::Plan;
 use rly_station::{ErrorLines, PlanKeys, ServeFault};
@@ -218,7 +217,13 @@ fn tallied_start<'a, H: AllocGlobal + Net + Clock, D: Disk, E: Write>(
 }
 
 /// The same posts, whose links publish their counts to a tally.
-fn tallied_posts<'a, H: AllocGlobal + Clock, L: TaggedLink + Drop, T: Turn + Drop, K: Waker + Drop>(
+fn tallied_posts<
+    'a,
+    H: AllocGlobal + Clock,
+    L: MeteredLink + Drop,
+    T: Turn + Drop,
+    K: Waker + Drop,
+>(
     rt: &'a H,
     plan: &Plan,
     posts: Vec<Post<L, T, K>>,
@@ -234,7 +239,7 @@ fn tallied_posts<'a, H: AllocGlobal + Clock, L: TaggedLink + Drop, T: Turn + Dro
 }
 
 /// One more post, whose link publishes its counts to a tally.
-fn add_tallied_post<'a, H: Clock, L: TaggedLink + Drop, T: Turn + Drop, K: Waker + Drop>(
+fn add_tallied_post<'a, H: Clock, L: MeteredLink + Drop, T: Turn + Drop, K: Waker + Drop>(
     clock: &'a H,
     plan: &Plan,
     post: Post<L, T, K>,
@@ -249,7 +254,7 @@ fn add_tallied_post<'a, H: Clock, L: TaggedLink + Drop, T: Turn + Drop, K: Waker
 }
 
 /// The same post, whose link publishes its counts to a tally.
-fn tallied_post<'a, H: Clock, L: TaggedLink, T: Turn, K: Waker>(
+fn tallied_post<'a, H: Clock, L: MeteredLink, T: Turn, K: Waker>(
     clock: &'a H,
     plan: &Plan,
     post: Post<L, T, K>,
@@ -273,42 +278,31 @@ fn tallied_post<'a, H: Clock, L: TaggedLink, T: Turn, K: Waker>(
 }
 
 /// A worker's link, which publishes its counts to a tally.
-fn tallied_link<'a, H: Clock, L: TaggedLink>(
+fn tallied_link<'a, H: Clock, L: MeteredLink>(
     clock: &'a H,
     plan: &Plan,
     worker: Worker,
     link: L,
     tally: Arc<Tally, Global>,
 ) -> TalliedLink<L, &'a H>
-    ensures { link_below result ≡ link }
-{
-    let hop = match worker {
-        Worker::Receiver(peer) => return peer_link(clock, plan, peer, link, tally),
-        Worker::Sender(hop) => hop,
-    };
-    TalliedLink::to_hop(link, hop, tally)
-}
-
-/// The link with a peer of a plan, which counts its packets.
-fn peer_link<'a, H: Clock, L: TaggedLink>(
-    clock: &'a H,
-    plan: &Plan,
-    peer: PeerId,
-    link: L,
-    tally: Arc<Tally, Global>,
-) -> TalliedLink<L, &'a H>
-    ensures { link_below result ≡ link }
+    ensures below { link_below result ≡ link }
+    // It counts the packets between this station and the neighbour's.
+    ensures counted { counted_below result ≡ new_counted link worker (own_station plan.now) (station_of plan.now worker) }
 {
     let own = StationId(plan.station());
-    let station = station_of(plan, peer);
-    TalliedLink::with_peer(link, own, station, peer, clock, tally)
+    let station = station_of(plan, worker);
+    TalliedLink::new(link, worker, own, station, clock, tally)
 }
 
-/// A peer's station: 0 if the peer isn't in the plan.
-fn station_of(plan: &Plan, peer: PeerId) -> StationId
-    ensures { IfSome (peer_at plan.now peer) (λ neighbour. result.0 ≡ neighbour.station) }
+/// The station of a worker's neighbour: 0 if the neighbour isn't in the plan.
+fn station_of(plan: &Plan, worker: Worker) -> StationId
+    ensures { result ≡ station_of plan.now worker }
 {
-    match plan.peer(peer) {
+    let neighbour = match worker {
+        Worker::Receiver(peer) => plan.peer(peer),
+        Worker::Sender(hop) => plan.hop(hop),
+    };
+    match neighbour {
         Some(neighbour) => StationId(neighbour.station),
         None => StationId(0),
     }

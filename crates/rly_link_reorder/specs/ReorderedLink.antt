@@ -1,15 +1,16 @@
 -- The ghost history of a link with a reorder buffer, and the Heards that it sends (docs/DEFINITIONS.md, "What comes
 -- ahead of a gap").
-use Rattle.std.specs.Prelude.{ℕ, List, [], ◌∷◌, ◌++◌, Bool, ◌&&◌, is_some, if◌then◌else◌, Option, Some, None}
+use Rattle.std.specs.Prelude.{◌≡◌, ℕ, ◌+◌, ◌-◌, ◌^◌, min, List, [], ◌∷◌, ◌++◌, Bool, ◌&&◌, is_some}
+use Rattle.std.specs.Prelude.{if◌then◌else◌, Option, Some, None}
 use Rattle.rly_link_reorder.specs.ReorderBuffer.{ReorderView, BufferedData, reorder_after_custody, after_data}
 use Rattle.rly_link_reorder.specs.ReorderBuffer.{after_giving, after_heard, after_refusal, due_data, heard_bits}
 use Rattle.rly_link_reorder.specs.ReorderBuffer.{is_heard_due}
 use Rattle.rly_hop.specs.declared.message.StationId.{StationId}
 use Rattle.rly_hop.specs.FixedBytes.{custody_number, data_number, heard_packet, refused_number}
-use Rattle.rly_link.specs.LinkHistory.{Hearing, new_hearing, message_in}
+use Rattle.rly_link.specs.LinkHistory.{Hearing, TellsMore, new_hearing, message_in}
 
--- the link below, this station and the peer, the reorder buffer, the packets delivered, and those that were passed to
--- it to be sent
+-- the link below, this station and the peer, the reorder buffer, the packets delivered, those that were passed to it
+-- to be sent, and the count of Heards that it sent
 pub record ReorderedView (L : Type 0) : Type 0 where
   pub link : L
   pub own : StationId
@@ -17,11 +18,12 @@ pub record ReorderedView (L : Type 0) : Type 0 where
   pub early : ReorderView
   pub given : List Hearing
   pub passed : List (List ℕ)
+  pub heards : ℕ
 
 -- a link with a reorder buffer, before its first call
 abbrev pub new_reordered : {L : Type 0} → L → StationId → StationId → ReorderView → ReorderedView L
 new_reordered link own peer early =
-    record { link = link; own = own; peer = peer; early = early; given = []; passed = [] }
+    record { link = link; own = own; peer = peer; early = early; given = []; passed = []; heards = 0 }
 
 -- It received the packets that it delivered, now or again, and sent those that were passed to it: the Heards that the
 -- link below sends are its own. The count of failed calls is that of the link below.
@@ -87,6 +89,17 @@ heards_after a packet =
     if says_heard a packet
     then packet_list (heard_packet a.own a.peer (after_passing a packet).covered (heard_bits (after_passing a packet)))
     else []
+
+-- the count of Heards after these more: it stops at its last value of 64 bits
+abbrev pub heard_count : ℕ → List (List ℕ) → ℕ
+heard_count count [] = count
+heard_count count (heard ∷ heards) = min (heard_count count heards + 1) (2 ^ 64 - 1)
+
+-- a packet was passed to the link below, and after it these Heards, which were counted
+abbrev pub HasSent : {L : Type 0} → (L → Option (List (List ℕ))) → ReorderedView L → ReorderedView L → List ℕ
+    → List (List ℕ) → Type 0
+HasSent sent old new packet heards =
+    TellsMore (sent old.link) (sent new.link) (packet ∷ heards) × (new.heards ≡ heard_count old.heards heards)
 
 -- the packets delivered, with the stored packet that was due, if any
 abbrev pub given_again : Bool → Option BufferedData → List Hearing → List Hearing

@@ -4,7 +4,7 @@ ghost use Rattle.std.specs.Prelude.{◌≡◌, ◌⊎◌, ◌≤◌, ◌++◌, �
 ghost use Rattle.std.specs.Prelude.{OnOk, Some, false, length, true};
 ghost use Rattle.std.specs.Option.{option_map};
 ghost use Rattle.rly_link_reorder.specs.ReorderedLink.{after_hearing, after_receive, after_sending, given_again};
-ghost use Rattle.rly_link_reorder.specs.ReorderedLink.{heards_after, new_reordered};
+ghost use Rattle.rly_link_reorder.specs.ReorderedLink.{HasSent, heards_after, new_reordered};
 ghost use Rattle.rly_link_reorder.specs.ReorderBuffer.{after_giving, due_data, heard_bits, is_heard_due};
 ghost use Rattle.rly_hop.specs.FixedBytes.{heard_packet};
 ghost use Rattle.rly_link.specs.LinkHistory.{FailuresRose, TellsMore, new_hearing, packet_in, packet_of};
@@ -18,7 +18,7 @@ use std::marker::Model;
 
 /// A link with a peer over another link, which delivers early Data again when their turn comes, and sends a Heard after
 /// a custody if Data came ahead of a gap. Its model: the link below, both stations, the reorder buffer, the packets
-/// delivered, and the packets passed to it to be sent.
+/// delivered, the packets passed to it to be sent, and the count of Heards that it sent.
 #[derive(Drop)]
 pub struct ReorderedLink<L: Link> {
     link: L,
@@ -27,6 +27,8 @@ pub struct ReorderedLink<L: Link> {
     early: ReorderBuffer,
     given: Log<bool, Option<PacketLog>>,
     passed: Log<PacketLog, ()>,
+    /// Heards passed to the link below. The count stops at its last value.
+    heards: u64,
 }
 
 impl<L: Link> Model for ReorderedLink<L> {
@@ -42,6 +44,7 @@ impl<L: Link> Model for ReorderedLink<L> {
       early = a.early;
       given = heard_of a.given;
       passed = sent_of a.passed;
+      heards = a.heards;
     } };
 }
 
@@ -57,6 +60,7 @@ impl<L: Link> ReorderedLink<L> {
             early,
             given: Log::new(),
             passed: Log::new(),
+            heards: 0,
         }
     }
 
@@ -72,6 +76,14 @@ impl<L: Link> ReorderedLink<L> {
         ensures { result ≡ self.link }
     {
         self.link
+    }
+
+    /// The number of Heards that it passed to the link below, also those whose send failed. The count stops at its
+    /// last value of 64 bits.
+    pub fn heards_sent(&self) -> u64
+        ensures { result ≡ self.now.heards }
+    {
+        self.heards
     }
 
     /// Delivers the stored packet that is due, if there is one that fits.
@@ -150,6 +162,7 @@ impl<L: Link> Link for ReorderedLink<L> {
         ensures heard { self.new.given ≡ self.old.given ++ new_hearing true (packet_of result buffer.new) ∷ [] }
         ensures sent { self.new.passed ≡ self.old.passed }
         ensures silent { L.sent self.new.link ≡ L.sent self.old.link }
+        ensures uncounted { self.new.heards ≡ self.old.heards }
         ensures rise { OnErr result (FailuresRose (L.failed self.old.link) (L.failed self.new.link)) }
         ensures no_failure { OnOk result (L.failed self.new.link ≡ L.failed self.old.link) }
         // A stored packet that is due is delivered without a receive below. Otherwise the link below is asked once.
@@ -173,6 +186,7 @@ impl<L: Link> Link for ReorderedLink<L> {
         ensures heard { self.new.given ≡ self.old.given ++ new_hearing false (packet_of result buffer.new) ∷ [] }
         ensures sent { self.new.passed ≡ self.old.passed }
         ensures silent { L.sent self.new.link ≡ L.sent self.old.link }
+        ensures uncounted { self.new.heards ≡ self.old.heards }
         ensures rise { OnErr result (FailuresRose (L.failed self.old.link) (L.failed self.new.link)) }
         ensures no_failure { OnOk result (L.failed self.new.link ≡ L.failed self.old.link) }
         ensures again { IfSome (due_data self.old.early (length buffer.old))
@@ -196,12 +210,10 @@ impl<L: Link> Link for ReorderedLink<L> {
         ensures rise { OnErr result (FailuresRose (L.failed self.old.link) (L.failed self.new.link)) }
         ensures no_failure { OnOk result (L.failed self.new.link ≡ L.failed self.old.link) }
         ensures below { L.heard self.new.link ≡ L.heard self.old.link }
-        // After a custody that went out it sends the Heard that is due, and nothing else of its own.
-        ensures passes { OnOk result
-            (TellsMore (L.sent self.old.link) (L.sent self.new.link) (packet.now ∷ heards_after self.old packet.now)) }
-        ensures fails { OnErr result (TellsMore (L.sent self.old.link) (L.sent self.new.link) (packet.now ∷ [])
-            ⊎ TellsMore (L.sent self.old.link) (L.sent self.new.link)
-            (packet.now ∷ heards_after self.old packet.now)) }
+        // After a custody that went out it sends the Heard that is due, counts it, and sends nothing else of its own.
+        ensures passes { OnOk result (HasSent L.sent self.old self.new packet.now (heards_after self.old packet.now)) }
+        ensures fails { OnErr result (HasSent L.sent self.old self.new packet.now []
+            ⊎ HasSent L.sent self.old self.new packet.now (heards_after self.old packet.now)) }
         ensures after { self.new.early ≡ after_sending self.old packet.now }
     {
         self.passed = self.passed.and(&bytes_in(packet), &());
@@ -216,7 +228,10 @@ impl<L: Link> Link for ReorderedLink<L> {
         self.early.tell();
         self.link.send(packet)?;
         match heard {
-            Some(heard) => self.link.send(&heard),
+            Some(heard) => {
+                self.heards = self.heards.saturating_add(1);
+                self.link.send(&heard)
+            }
             None => Ok(()),
         }
     }

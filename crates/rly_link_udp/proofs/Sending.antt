@@ -109,7 +109,7 @@ ahead_send L g l =
         search (sendable, crosses) depth 20,
         (
           search (sendable, crosses) depth 20,
-          (early_send, (search (sendable, the_send) depth 20, (search (sendable, the_send) depth 20, tt))),
+          (early_send, (search (sendable, the_send) depth 20, (search (sendable, the_send) depth 20, (search sendable depth 20, tt)))),
         ),
       ),
     ) in

@@ -9,7 +9,7 @@ use crate::link_reorder::LinkReorder;
 use crate::udp_link::UdpLink;
 use crate::wrong_tags::WrongTags;
 use rly_link::{Link, LinkFault, Worker};
-use rly_link_auth::{Key, StationLink, TaggedLink};
+use rly_link_auth::{Key, MeteredLink, StationLink};
 use rly_link_reorder::ReorderedLink;
 use rly_station::Logger;
 use std::time::Clock;
@@ -62,9 +62,20 @@ impl<C: Clock + Drop> NeighbourLink<C> {
     }
 }
 
-impl<C: Clock + Drop> TaggedLink for NeighbourLink<C> {
-    fn wrong_tags(&self) -> u64 {
+impl<C: Clock + Drop> MeteredLink for NeighbourLink<C> {
+    ghost use Rattle.std.specs.Prelude.{◌≡◌};
+    ghost use Rattle.rly_link_auth.specs.StationLink.{wrong_tags};
+
+    fn wrong_tags(&self) -> u64
+        ensures { result ≡ wrong_tags self.now.link.link }
+    {
         self.link.link().wrong_tags()
+    }
+
+    fn heards_sent(&self) -> u64
+        ensures { result ≡ self.now.link.heards }
+    {
+        self.link.heards_sent()
     }
 }
 

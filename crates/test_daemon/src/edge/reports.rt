@@ -1,12 +1,12 @@
-//! Reports of a serving station: their text, and the counts of a peer's link.
+//! Reports of a serving station: their text, and the counts of a peer's and of a hop's link.
 
 ghost use Rattle.std.specs.Prelude.{◌≡◌, IfOk, length};
 ghost use Rattle.rly_plan.specs.Sound.{IsSoundPlan};
 
 use rly_core::{HopId, PeerId, Refusal};
 use rly_daemon_report::{
-    Counted, DeviceReport, HopReport, PeerCounts, PeerReport, Report, show_asks, text_of,
-    text_of_answers,
+    Counted, DeviceReport, HopCounts, HopReport, LinkCounts, LinkReport, PeerCounts, PeerReport,
+    Report, show_asks, text_of, text_of_answers,
 };
 use rly_hop::StationId;
 use rly_machine::{Answer, Ask, CodelState, HopStatus, Query, Reply, SeatId};
@@ -35,7 +35,19 @@ const BUSY: HopReport = HopReport {
     }),
     is_open: true,
     change: Some(1_795_581_600_000_000),
+    link: BUSY_LINK,
+};
+
+/// Its link, with a number of its own in each field, on which a packet was received 3.1 seconds before the report.
+const BUSY_LINK: LinkReport = LinkReport {
+    heard: 21,
+    custody: 22,
+    refused: 23,
+    malformed: 24,
     wrong: 10,
+    repeats: 25,
+    heards: 26,
+    last: Some(1_795_581_493_900_000),
 };
 
 /// A hop whose Show was refused, and whose contact never opens again.
@@ -44,20 +56,34 @@ const BROKEN: HopReport = HopReport {
     answer: Err(Refusal::Broken),
     is_open: false,
     change: None,
+    link: UNUSED,
+};
+
+/// A link that wasn't used.
+const UNUSED: LinkReport = LinkReport {
+    heard: 0,
+    custody: 0,
+    refused: 0,
+    malformed: 0,
     wrong: 0,
+    repeats: 0,
+    heards: 0,
+    last: None,
 };
 
 /// A peer from which a packet was received 2.9 seconds before the report.
 const HEARD: PeerReport = PeerReport {
     peer: PeerId(1),
-    counts: PeerCounts {
+    link: LinkReport {
         heard: 41,
         custody: 42,
         refused: 43,
         malformed: 44,
+        wrong: 45,
+        repeats: 46,
+        heards: 47,
         last: Some(1_795_581_494_100_000),
     },
-    wrong: 45,
 };
 
 const DEVICE: DeviceReport = DeviceReport {
@@ -68,10 +94,10 @@ const DEVICE: DeviceReport = DeviceReport {
 
 /// Their report.
 const TEXT: &str = "report 1795581497000000
-hop 1 taken 36 queued 3 flight 2 dropped 4 released 16 first 5 next 6 count 7 last 8 dropping yes moment 9 expired 11 contact open until 1795581600000000 wrong 10
-hop 2 refused 11 broken contact closed wrong 0
-peer 1 heard 41 custody 42 refused 43 malformed 44 wrong 45 last 2
-peer 2 heard 0 custody 0 refused 0 malformed 0 wrong 0
+hop 1 taken 36 queued 3 flight 2 dropped 4 released 16 first 5 next 6 count 7 last 8 dropping yes moment 9 expired 11 contact open until 1795581600000000 wrong 10 heard 21 custody 22 refused 23 malformed 24 repeats 25 heards 26 last 3
+hop 2 refused 11 broken contact closed wrong 0 heard 0 custody 0 refused 0 malformed 0 repeats 0 heards 0
+peer 1 heard 41 custody 42 refused 43 malformed 44 wrong 45 repeats 46 heards 47 last 2
+peer 2 heard 0 custody 0 refused 0 malformed 0 wrong 0 repeats 0 heards 0
 device seq 51 rounds 52 segments 53
 ";
 
@@ -79,8 +105,7 @@ device seq 51 rounds 52 segments 53
 fn a_report_is_told_line_by_line(rt: HostRuntime) {
     let silent = PeerReport {
         peer: PeerId(2),
-        counts: PeerCounts::new(),
-        wrong: 0,
+        link: UNUSED,
     };
     let report = Report {
         moment: 1_795_581_497_000_000,
@@ -102,7 +127,7 @@ fn a_clock_may_be_set_back(rt: HostRuntime) {
         device: DEVICE,
     };
     let told = "report 0
-peer 1 heard 41 custody 42 refused 43 malformed 44 wrong 45 last 0
+peer 1 heard 41 custody 42 refused 43 malformed 44 wrong 45 repeats 46 heards 47 last 0
 device seq 51 rounds 52 segments 53
 ";
     let text = text_of(rt.alloc(), &report);
@@ -152,13 +177,13 @@ fn contacts_are_those_of_the_plan(rt: HostRuntime) -> Result<(), Fail> {
         (HopId(2), 250, true, Some(300)),
     ];
     for (hop, moment, is_open, change) in rows {
-        let told = HopReport::at(&plan, hop, moment, Err(Refusal::Broken), 3);
+        let told = HopReport::at(&plan, hop, moment, Err(Refusal::Broken), BUSY_LINK);
         let expected = HopReport {
             hop,
             answer: Err(Refusal::Broken),
             is_open,
             change,
-            wrong: 3,
+            link: BUSY_LINK,
         };
         assert!(rt; told == expected, "{} {moment}", hop.0);
     }
@@ -218,18 +243,160 @@ fn what_is_heard_is_counted(rt: HostRuntime) {
 #[test]
 fn what_is_sent_is_counted(rt: HostRuntime) {
     let mut counts = PeerCounts::new();
-    counts.send(&CUSTODY);
-    counts.send(&CUSTODY);
-    counts.send(&REFUSED);
-    counts.send(&DATA);
-    counts.send(&REFUSED[..16]);
-    counts.send(&HEARD_MESSAGE);
+    counts.send(OWN, PEER, &CUSTODY);
+    counts.send(OWN, PEER, &CUSTODY);
+    counts.send(OWN, PEER, &REFUSED);
+    counts.send(OWN, PEER, &DATA);
+    counts.send(OWN, PEER, &REFUSED[..16]);
+    counts.send(OWN, PEER, &HEARD_MESSAGE);
     let sent = PeerCounts {
         custody: 2,
         refused: 1,
+        covered: 1,
         ..PeerCounts::new()
     };
     expect!(rt; counts == sent);
+}
+
+/// A message with this number in place of its own, the last byte of its number.
+fn numbered<const N: usize>(message: [u8; N], number: u8) -> [u8; N]
+    requires { 16 ≤ N }
+{
+    let mut packet = message;
+    packet[15] = number;
+    packet
+}
+
+/// Data up to the greatest number that custody was sent for are repeats: not before that custody, and not above it. A
+/// custody of less changes nothing, nor does one to another station. Data 0 repeats none.
+#[test]
+fn repeats_of_a_peer_are_counted(rt: HostRuntime) {
+    let mut counts = PeerCounts::new();
+    counts.hear(OWN, PEER, &DATA, 1);
+    counts.hear(OWN, PEER, &DATA, 2);
+    expect!(rt; counts.repeats == 0);
+    counts.send(OWN, PEER, &numbered(CUSTODY, 3));
+    counts.send(OWN, PEER, &numbered(CUSTODY, 2));
+    counts.send(PEER, OWN, &numbered(CUSTODY, 9));
+    counts.hear(OWN, PEER, &numbered(DATA, 3), 3);
+    counts.hear(OWN, PEER, &numbered(DATA, 4), 4);
+    counts.hear(OWN, OWN, &DATA, 5);
+    counts.hear(OWN, PEER, &numbered(DATA, 1), 6);
+    counts.hear(OWN, PEER, &numbered(DATA, 0), 7);
+    let expected = PeerCounts {
+        heard: 7,
+        custody: 3,
+        malformed: 1,
+        repeats: 2,
+        covered: 3,
+        last: Some(7),
+        ..PeerCounts::new()
+    };
+    expect!(rt; counts == expected);
+}
+
+/// The station of a hop, from which custody, refusal and Heard come to station 3 in the worked messages.
+const HOP: StationId = OWN;
+
+/// Of the packets received on a hop's link custodies, refusals and Heards from its station are counted apart, and all
+/// others as malformed: a Data, one cut short, one to or from another station.
+#[test]
+fn what_a_hop_answers_is_counted(rt: HostRuntime) {
+    let mut counts = HopCounts::new();
+    let packets: [&[u8]; 9] = [
+        &CUSTODY,
+        &REFUSED,
+        &HEARD_MESSAGE,
+        &CUSTODY,
+        &HEARD_MESSAGE,
+        &HEARD_MESSAGE,
+        &DATA,
+        &HEARD_MESSAGE[..23],
+        &[],
+    ];
+    for (packet, moment) in packets.iter().zip(100u64..200) {
+        counts.hear(PEER, HOP, packet, moment);
+    }
+    let nine = HopCounts {
+        heard: 9,
+        custody: 2,
+        refused: 1,
+        heards: 3,
+        malformed: 3,
+        last: Some(108),
+        ..HopCounts::new()
+    };
+    expect!(rt; counts == nine);
+    counts.hear(HOP, PEER, &CUSTODY, 109);
+    counts.hear(HOP, HOP, &REFUSED, 110);
+    counts.hear(PEER, PEER, &HEARD_MESSAGE, 111);
+    let twelve = HopCounts {
+        heard: 12,
+        malformed: 6,
+        last: Some(111),
+        ..nine
+    };
+    expect!(rt; counts == twelve);
+}
+
+/// A Data whose number is above all that were sent to the hop before isn't a repeat, and each other one is.
+#[test]
+fn repeats_to_a_hop_are_counted(rt: HostRuntime) {
+    let mut counts = HopCounts::new();
+    let sent = [
+        (2, 0),
+        (3, 0),
+        (3, 1),
+        (2, 2),
+        (5, 2),
+        (4, 3),
+        (5, 4),
+        (6, 4),
+    ];
+    for (number, repeats) in sent {
+        counts.send(PEER, HOP, &numbered(DATA, number));
+        expect!(rt; counts.repeats == repeats);
+    }
+    counts.send(HOP, PEER, &DATA);
+    counts.send(PEER, PEER, &DATA);
+    counts.send(PEER, HOP, &CUSTODY);
+    let expected = HopCounts {
+        repeats: 4,
+        sent: 6,
+        ..HopCounts::new()
+    };
+    expect!(rt; counts == expected);
+}
+
+/// The counts of a link are those of its end. Of a peer's the Heards are those sent to it, and of a hop's those received.
+#[test]
+fn a_link_is_reported_by_its_end(rt: HostRuntime) {
+    let mut peer = LinkCounts::Peer(PeerCounts::new());
+    let mut hop = LinkCounts::Hop(HopCounts::new());
+    peer.send(OWN, PEER, &CUSTODY);
+    peer.hear(OWN, PEER, &DATA, 5);
+    hop.send(PEER, HOP, &DATA);
+    hop.send(PEER, HOP, &DATA);
+    hop.hear(PEER, HOP, &HEARD_MESSAGE, 6);
+    let expected = LinkReport {
+        heard: 1,
+        custody: 1,
+        wrong: 8,
+        repeats: 1,
+        heards: 9,
+        last: Some(5),
+        ..LinkReport::new()
+    };
+    expect!(rt; LinkReport::of(&peer, 8, 9) == expected);
+    let expected = LinkReport {
+        heard: 1,
+        wrong: 8,
+        repeats: 1,
+        heards: 1,
+        last: Some(6),
+        ..LinkReport::new()
+    };
+    expect!(rt; LinkReport::of(&hop, 8, 9) == expected);
 }
 
 /// A count stays at its last value.
@@ -240,12 +407,32 @@ fn counts_stop_at_their_last_value(rt: HostRuntime) {
         custody: u64::MAX,
         refused: u64::MAX,
         malformed: u64::MAX,
+        repeats: u64::MAX,
+        covered: u64::MAX,
         last: Some(1),
     };
     let mut counts = last;
     counts.hear(OWN, PEER, &[], 1);
-    counts.send(&CUSTODY);
-    counts.send(&REFUSED);
+    counts.hear(OWN, PEER, &DATA, 1);
+    counts.send(OWN, PEER, &CUSTODY);
+    counts.send(OWN, PEER, &REFUSED);
+    expect!(rt; counts == last);
+    let last = HopCounts {
+        heard: u64::MAX,
+        custody: u64::MAX,
+        refused: u64::MAX,
+        heards: u64::MAX,
+        malformed: u64::MAX,
+        repeats: u64::MAX,
+        sent: u64::MAX,
+        last: Some(1),
+    };
+    let mut counts = last;
+    let packets: [&[u8]; 4] = [&CUSTODY, &REFUSED, &HEARD_MESSAGE, &[]];
+    for packet in packets {
+        counts.hear(PEER, HOP, packet, 1);
+    }
+    counts.send(PEER, HOP, &DATA);
     expect!(rt; counts == last);
 }
 
@@ -253,16 +440,15 @@ fn counts_stop_at_their_last_value(rt: HostRuntime) {
 fn counted() -> Counted {
     let silent = PeerReport {
         peer: PeerId(2),
-        counts: PeerCounts::new(),
-        wrong: 0,
+        link: UNUSED,
     };
     let mut peers = [silent; 64];
     peers[0] = HEARD;
-    let mut wrong = [0; 64];
-    wrong[0] = 10;
+    let mut hops = [UNUSED; 64];
+    hops[0] = BUSY_LINK;
     Counted {
         peers,
-        wrong,
+        hops,
         rounds: 52,
         segments: 53,
     }
@@ -289,17 +475,17 @@ fn a_report_is_of_what_was_answered(rt: HostRuntime) -> Result<(), Fail> {
     let answers = [answer_of(Reply::Shown(status)), refused];
     let text = text_of_answers(alloc, &plan, 120, &answers, &counted())?;
     let told = "report 120
-hop 1 taken 36 queued 3 flight 2 dropped 4 released 16 first 5 next 6 count 7 last 8 dropping yes moment 9 expired 11 contact open until 200 wrong 10
-hop 2 refused 11 broken contact closed until 150 wrong 0
-peer 1 heard 41 custody 42 refused 43 malformed 44 wrong 45 last 0
+hop 1 taken 36 queued 3 flight 2 dropped 4 released 16 first 5 next 6 count 7 last 8 dropping yes moment 9 expired 11 contact open until 200 wrong 10 heard 21 custody 22 refused 23 malformed 24 repeats 25 heards 26 last 0
+hop 2 refused 11 broken contact closed until 150 wrong 0 heard 0 custody 0 refused 0 malformed 0 repeats 0 heards 0
+peer 1 heard 41 custody 42 refused 43 malformed 44 wrong 45 repeats 46 heards 47 last 0
 device seq 51 rounds 52 segments 53
 ";
     assert!(rt; text.as_str() == told);
     let answers = [answer_of(Reply::Unchanged), answer_of(Reply::Shown(OTHER))];
     let text = text_of_answers(alloc, &plan, 250, &answers, &counted())?;
     let told = "report 250
-hop 2 taken 1 queued 0 flight 0 dropped 0 released 1 first 0 next 0 count 0 last 0 dropping no moment 77 contact open until 300 wrong 0
-peer 1 heard 41 custody 42 refused 43 malformed 44 wrong 45 last 0
+hop 2 taken 1 queued 0 flight 0 dropped 0 released 1 first 0 next 0 count 0 last 0 dropping no moment 77 contact open until 300 wrong 0 heard 0 custody 0 refused 0 malformed 0 repeats 0 heards 0
+peer 1 heard 41 custody 42 refused 43 malformed 44 wrong 45 repeats 46 heards 47 last 0
 device seq 51 rounds 52 segments 53
 ";
     assert!(rt; text.as_str() == told);
@@ -369,15 +555,18 @@ fn counted_of_all() -> Counted {
     for (report, id) in all.peers.iter_mut().zip(1u16..=64) {
         *report = PeerReport {
             peer: PeerId(id),
-            counts: PeerCounts {
+            link: LinkReport {
                 heard: u64::from(id),
-                ..PeerCounts::new()
+                ..UNUSED
             },
-            wrong: 0,
         };
     }
-    for (wrong, id) in all.wrong.iter_mut().zip(1u64..=64) {
-        *wrong = id;
+    for (link, id) in all.hops.iter_mut().zip(1u64..=64) {
+        *link = LinkReport {
+            wrong: id,
+            custody: id,
+            ..UNUSED
+        };
     }
     all
 }
@@ -392,13 +581,15 @@ fn told_of_all(alloc: Global) -> Result<String, AllocError> {
             "hop {id} taken {id} queued 0 flight 0 dropped 0 released {id}"
         )?;
         write!(text, " first 0 next 0 count 0 last 0 dropping no moment 77")?;
-        writeln!(text, " contact open until 200 wrong {id}")?;
+        write!(
+            text,
+            " contact open until 200 wrong {id} heard 0 custody {id}"
+        )?;
+        writeln!(text, " refused 0 malformed 0 repeats 0 heards 0")?;
     }
     for id in 1..=64 {
-        writeln!(
-            text,
-            "peer {id} heard {id} custody 0 refused 0 malformed 0 wrong 0"
-        )?;
+        write!(text, "peer {id} heard {id} custody 0 refused 0 malformed 0")?;
+        writeln!(text, " wrong 0 repeats 0 heards 0")?;
     }
     writeln!(text, "device seq 51 rounds 52 segments 53")?;
     Ok(text)
@@ -448,23 +639,30 @@ const GREATEST_HOP: HopStatus = HopStatus {
 /// A peer each of whose numbers is, and from which a packet was received at moment 0.
 const GREATEST_PEER: PeerReport = PeerReport {
     peer: PeerId(65_535),
-    counts: PeerCounts {
-        heard: u64::MAX,
-        custody: u64::MAX,
-        refused: u64::MAX,
-        malformed: u64::MAX,
-        last: Some(0),
-    },
+    link: GREATEST_LINK,
+};
+
+/// Their link.
+const GREATEST_LINK: LinkReport = LinkReport {
+    heard: u64::MAX,
+    custody: u64::MAX,
+    refused: u64::MAX,
+    malformed: u64::MAX,
     wrong: u64::MAX,
+    repeats: u64::MAX,
+    heards: u64::MAX,
+    last: Some(0),
 };
 
 /// Their report at the last moment of 64 bits.
 const GREATEST_TEXT: &str = "report 18446744073709551615
 hop 65535 taken 18446744073709551615 queued 18446744073709551615 flight 18446744073709551615 dropped 18446744073709551615 released 18446744073709551615 \
 first 18446744073709551615 next 18446744073709551615 count 18446744073709551615 last 18446744073709551615 dropping yes moment 18446744073709551615 \
-expired 18446744073709551615 contact open until 18446744073709551615 wrong 18446744073709551615
+expired 18446744073709551615 contact open until 18446744073709551615 wrong 18446744073709551615 \
+heard 18446744073709551615 custody 18446744073709551615 refused 18446744073709551615 malformed 18446744073709551615 \
+repeats 18446744073709551615 heards 18446744073709551615 last 18446744073709
 peer 65535 heard 18446744073709551615 custody 18446744073709551615 refused 18446744073709551615 malformed 18446744073709551615 \
-wrong 18446744073709551615 last 18446744073709
+wrong 18446744073709551615 repeats 18446744073709551615 heards 18446744073709551615 last 18446744073709
 device seq 18446744073709551615 rounds 18446744073709551615 segments 18446744073709551615
 ";
 
@@ -476,7 +674,7 @@ fn the_greatest_numbers(rt: HostRuntime) {
         answer: Ok(GREATEST_HOP),
         is_open: true,
         change: Some(u64::MAX),
-        wrong: u64::MAX,
+        link: GREATEST_LINK,
     };
     let report = Report {
         moment: u64::MAX,

@@ -63,6 +63,8 @@ enum Act<'a> {
     Waited(u64),
     /// This many failed.
     Failed(u64),
+    /// It sent this many Heards.
+    Heards(u64),
 }
 
 /// A receive returns this packet, with or without a wait.
@@ -100,6 +102,7 @@ fn is_seen(link: &mut ReorderedLink<MemLink>, act: &Act<'_>) -> bool {
         Act::Calls(calls) => link.link().calls() == *calls,
         Act::Waited(waits) => link.link().waits() == *waits,
         Act::Failed(failures) => link.failures() == *failures,
+        Act::Heards(heards) => link.heards_sent() == *heards,
     }
 }
 
@@ -178,7 +181,9 @@ fn a_gap_is_told_after_the_custody(rt: HostRuntime) {
         Act::Data(1),
         Act::Data(3),
         Act::Data(4),
+        Act::Heards(0),
         Act::Acknowledges(1),
+        Act::Heards(1),
     ];
     let told =
         *b"\x52\x4c\x01\x05\x00\x07\x00\x03\x00\x00\x00\x00\x00\x00\x00\x01\x60\x00\x00\x00\x00\x00\x00\x00";
@@ -195,6 +200,7 @@ fn without_a_gap_nothing_is_told(rt: HostRuntime) {
         Act::Acknowledges(2),
         Act::Data(3),
         Act::Acknowledges(3),
+        Act::Heards(0),
     ];
     expect_told(
         &rt,
@@ -216,8 +222,10 @@ fn a_gap_is_told_again_only_after_data(rt: HostRuntime) {
         Act::Acknowledges(1),
         Act::Nothing,
         Act::Acknowledges(1),
+        Act::Heards(1),
         Act::Data(1),
         Act::Acknowledges(1),
+        Act::Heards(2),
     ];
     let told = heard(1, *b"\x40\x00\x00\x00\x00\x00\x00\x00");
     let sent: &[&[u8]] = &[&custody(1), &told, &custody(1), &custody(1), &told];
@@ -267,26 +275,26 @@ fn refusals_of_others_are_not_told(rt: HostRuntime) {
 }
 
 /// A custody that can't be sent has no Heard after it, and none follows later without new Data. A Heard that can't be
-/// sent is a failure of the call.
+/// sent is a failure of the call, and counts as sent.
 #[test]
 fn a_failure_of_either_is_told(rt: HostRuntime) {
-    let coming: &[&[u8]] = &[&data(1), &data(3)];
-    let acts: &[Act<'_>] = &[
-        Act::Data(1),
-        Act::Data(3),
-        Act::AcknowledgesNot(1),
-        Act::Failed(1),
-        Act::Acknowledges(1),
+    let rows: [(u64, u64, &[&[u8]]); 2] = [
+        (3, 0, &[&custody(1)]),
+        (4, 1, &[&custody(1), &custody(1)]),
     ];
-    expect_told(&rt, rt.alloc(), coming, 3, acts, &[&custody(1)]);
-    expect_told(
-        &rt,
-        rt.alloc(),
-        coming,
-        4,
-        acts,
-        &[&custody(1), &custody(1)],
-    );
+    for (fails_at, heards, sent) in rows {
+        let acts: &[Act<'_>] = &[
+            Act::Data(1),
+            Act::Data(3),
+            Act::AcknowledgesNot(1),
+            Act::Failed(1),
+            Act::Heards(heards),
+            Act::Acknowledges(1),
+            Act::Heards(heards),
+        ];
+        let coming: &[&[u8]] = &[&data(1), &data(3)];
+        expect_told(&rt, rt.alloc(), coming, fails_at, acts, sent);
+    }
 }
 
 /// A receive that waits returns a due packet at once.

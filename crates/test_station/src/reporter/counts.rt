@@ -1,11 +1,11 @@
-//! The counts of a link with a peer, and a reporter's view of them.
+//! The counts of a link with a peer and with a hop, and a reporter's view of them.
 
 use crate::reporter::reporters::greatest_text;
 use rly_core::{HopId, PeerId};
-use rly_daemon_report::{Counted, PeerCounts, PeerReport};
+use rly_daemon_report::{Counted, HopCounts, LinkCounts, LinkReport, PeerCounts, PeerReport};
 use rly_daemon_reporter::{CountedLink, Counters, Tally};
 use rly_hop::StationId;
-use rly_link::{Link, MemLink};
+use rly_link::{Link, MemLink, Worker};
 use rly_plan::Plan;
 use std::alloc::Global;
 use std::process::Abort;
@@ -26,37 +26,26 @@ const REFUSED: [u8; 17] = [
     0x52, 0x4c, 0x01, 0x03, 0x00, 0x07, 0x00, 0x03, 0, 0, 0, 0, 0, 0, 0, 1, 0x06,
 ];
 
-/// A link that receives a Data, nothing, and a Data that is cut short. Its fifth call fails: the second that sends.
-fn link_below(rt: &impl Abort, alloc: Global) -> MemLink {
-    let whole = DATA.to_vec(alloc).expect(rt, "memory");
-    let cut = DATA[..20].to_vec(alloc).expect(rt, "memory");
+/// A link that receives a packet, nothing, and the packet without its last byte. Its fifth call fails: the second that
+/// sends.
+fn link_below(rt: &impl Abort, alloc: Global, packet: &[u8]) -> MemLink {
+    let whole = packet.to_vec(alloc).expect(rt, "memory");
+    let mut cut = packet.to_vec(alloc).expect(rt, "memory");
+    expect!(rt; cut.pop().is_some());
     let coming = vec![in alloc; Some(whole), None, Some(cut)];
     MemLink::new(alloc, coming.ok().expect(rt, "memory"), 5)
 }
 
-/// Makes three receives of a link and three sends, one of which fails.
-fn use_link<L: Link>(rt: &impl Abort, link: &mut L) {
+/// Makes three receives of a link and three sends, one of which fails: of the first packet twice, then of the other.
+fn use_link<L: Link>(rt: &impl Abort, link: &mut L, length: usize, packets: [&[u8]; 2]) {
     let mut buffer = [0; 100];
-    expect!(rt; link.recv(&mut buffer) == Ok(Some(21)));
+    expect!(rt; link.recv(&mut buffer) == Ok(Some(length)));
     expect!(rt; link.try_recv(&mut buffer) == Ok(None));
-    expect!(rt; link.try_recv(&mut buffer) == Ok(Some(20)));
-    expect!(rt; link.send(&CUSTODY).is_ok());
-    expect!(rt; link.send(&CUSTODY).is_err());
-    expect!(rt; link.send(&REFUSED).is_ok());
+    expect!(rt; link.try_recv(&mut buffer) == Ok(Some(length.saturating_sub(1))));
+    expect!(rt; link.send(packets[0]).is_ok());
+    expect!(rt; link.send(packets[0]).is_err());
+    expect!(rt; link.send(packets[1]).is_ok());
     expect!(rt; link.failures() == 1);
-}
-
-/// Checks the counts then, and returns the moment of the last packet received.
-fn expect_counts(rt: &impl Abort, counts: PeerCounts) -> u128 {
-    let expected = PeerCounts {
-        heard: 2,
-        custody: 2,
-        refused: 1,
-        malformed: 1,
-        last: counts.last,
-    };
-    expect!(rt; counts == expected);
-    u128::from(counts.last.unwrap_or(0))
 }
 
 /// The wall clock, in microseconds.
@@ -64,23 +53,92 @@ fn micros(rt: &(impl Abort + Clock)) -> u128 {
     rt.since_1970().ok().expect(rt, "a clock").as_micros()
 }
 
-/// Checks the counts of a new link before it is used, and then.
-fn expect_counted<R: Abort + Clock, C: Clock + Drop>(rt: &R, link: &mut CountedLink<MemLink, C>) {
-    expect!(rt; link.counts() == PeerCounts::new());
+/// The moment of the last packet received.
+fn last_of(counts: LinkCounts) -> Option<u64> {
+    match counts {
+        LinkCounts::Peer(counts) => counts.last,
+        LinkCounts::Hop(counts) => counts.last,
+    }
+}
+
+/// A link of a worker between two stations, the packet that it receives, and the packets that it sends.
+#[derive(Drop)]
+struct Used<'a> {
+    worker: Worker,
+    own: StationId,
+    station: StationId,
+    given: &'a [u8],
+    sent: [&'a [u8]; 2],
+}
+
+/// Checks the counts of such a link before its first packet, and after them.
+fn expect_counted<R: Abort + Clock>(
+    rt: &R,
+    alloc: Global,
+    used: Used<'_>,
+    new: LinkCounts,
+    expected: impl Fn(Option<u64>) -> LinkCounts,
+) {
+    let below = link_below(rt, alloc, used.given);
+    let mut link = CountedLink::new(below, used.worker, used.own, used.station, rt);
+    expect!(rt; link.counts() == new && link.worker() == used.worker);
     let before = micros(rt);
-    use_link(rt, link);
-    let heard = expect_counts(rt, link.counts());
-    expect!(rt; before <= heard && heard <= micros(rt));
+    use_link(rt, &mut link, used.given.len(), used.sent);
+    let last = last_of(link.counts());
+    expect!(rt; link.counts() == expected(last));
+    let moment = u128::from(last.unwrap_or(0));
+    expect!(rt; before <= moment && moment <= micros(rt));
     expect!(rt; link.link().deliveries().len() == 2);
 }
 
 /// Each packet that the link below returns counts, by either receive, and each that is sent, even one that fails. A
 /// receive that returns nothing or fails doesn't count.
 #[test]
-fn packets_of_a_link_are_counted(rt: HostRuntime) {
-    let link = link_below(&rt, rt.alloc());
-    let mut link = CountedLink::new(link, StationId(7), StationId(3), &rt);
-    expect_counted(&rt, &mut link);
+fn packets_of_a_peer_are_counted(rt: HostRuntime) {
+    let used = Used {
+        worker: Worker::Receiver(PeerId(1)),
+        own: StationId(7),
+        station: StationId(3),
+        given: &DATA,
+        sent: [&CUSTODY, &REFUSED],
+    };
+    let new = LinkCounts::Peer(PeerCounts::new());
+    expect_counted(&rt, rt.alloc(), used, new, |last| {
+        LinkCounts::Peer(PeerCounts {
+            heard: 2,
+            custody: 2,
+            refused: 1,
+            malformed: 1,
+            repeats: 0,
+            covered: 1,
+            last,
+        })
+    });
+}
+
+/// The same of a hop: a Data that is sent again, even by a send that fails, is a repeat.
+#[test]
+fn packets_of_a_hop_are_counted(rt: HostRuntime) {
+    let used = Used {
+        worker: Worker::Sender(HopId(1)),
+        own: StationId(3),
+        station: StationId(7),
+        given: &CUSTODY,
+        sent: [&DATA, &REFUSED],
+    };
+    let new = LinkCounts::Hop(HopCounts::new());
+    expect_counted(&rt, rt.alloc(), used, new, |last| {
+        LinkCounts::Hop(HopCounts {
+            heard: 2,
+            custody: 1,
+            refused: 0,
+            heards: 0,
+            malformed: 1,
+            repeats: 1,
+            sent: 1,
+            last,
+        })
+    });
 }
 
 /// Two peers and two hops.
@@ -96,22 +154,27 @@ hop = [
 ";
 
 /// The counts set for the second peer.
-const HEARD: PeerReport = PeerReport {
-    peer: PeerId(2),
-    counts: PeerCounts {
-        heard: 41,
-        custody: 42,
-        refused: 43,
-        malformed: 44,
-        last: Some(46),
-    },
+const HEARD: LinkReport = LinkReport {
+    heard: 41,
+    custody: 42,
+    refused: 43,
+    malformed: 44,
     wrong: 45,
+    repeats: 48,
+    heards: 49,
+    last: Some(46),
 };
 
-/// The same for a peer that doesn't exist.
-const UNKNOWN: PeerReport = PeerReport {
-    peer: PeerId(3),
-    ..HEARD
+/// Those set for the first hop.
+const ANSWERED: LinkReport = LinkReport {
+    heard: 51,
+    custody: 54,
+    refused: 55,
+    malformed: 56,
+    wrong: 47,
+    repeats: 57,
+    heards: 58,
+    last: Some(59),
 };
 
 /// A reporter's view of a tally.
@@ -128,21 +191,18 @@ fn tally_of(rt: &impl Abort, alloc: Global, text: &str) -> Tally {
 
 /// Checks the view of peers.
 fn expect_peers(rt: &impl Abort, peers: &[PeerReport]) {
-    let silent = PeerReport {
-        peer: PeerId(1),
-        counts: PeerCounts::new(),
-        wrong: 0,
-    };
-    expect!(rt; peers.get(0) == Some(&silent) && peers.get(1) == Some(&HEARD));
-    expect!(rt; matches!(peers.get(2), Some(peer) if peer.counts == PeerCounts::new()));
+    for (peer, id) in peers.iter().zip(1u16..=64) {
+        let expected = if id == 2 { HEARD } else { LinkReport::new() };
+        expect!(rt; peer.peer == PeerId(id) && peer.link == expected);
+    }
 }
 
 /// Sets counts of one neighbour of each kind, of one of each kind that doesn't exist, and of the device.
 fn set_some(tally: &Tally) {
-    tally.set_peer(&HEARD);
-    tally.set_peer(&UNKNOWN);
-    tally.set_wrong(HopId(1), 47);
-    tally.set_wrong(HopId(0), 9);
+    tally.set_link(Worker::Receiver(PeerId(2)), &HEARD);
+    tally.set_link(Worker::Receiver(PeerId(3)), &HEARD);
+    tally.set_link(Worker::Sender(HopId(1)), &ANSWERED);
+    tally.set_link(Worker::Sender(HopId(0)), &HEARD);
     tally.set_rounds(52, 53);
 }
 
@@ -152,7 +212,7 @@ fn expect_some<R: Abort>(rt: &R, alloc: Global) {
     set_some(&tally);
     let counted = seen(rt, alloc, tally);
     expect_peers(rt, &counted.peers);
-    expect!(rt; counted.wrong[0] == 47 && counted.wrong[1] == 0);
+    expect!(rt; counted.hops[0] == ANSWERED && counted.hops[1] == LinkReport::new());
     expect!(rt; counted.rounds == 52 && counted.segments == 53);
 }
 
@@ -163,26 +223,23 @@ fn what_was_set_is_seen(rt: HostRuntime) {
     expect_some(&rt, rt.alloc());
 }
 
-/// The maximum counts of a peer.
-fn greatest(id: u16) -> PeerReport {
-    PeerReport {
-        peer: PeerId(id),
-        counts: PeerCounts {
-            heard: u64::MAX,
-            custody: u64::MAX,
-            refused: u64::MAX,
-            malformed: u64::MAX,
-            last: Some(u64::MAX),
-        },
-        wrong: u64::MAX,
-    }
-}
+/// The maximum counts of a link.
+const GREATEST: LinkReport = LinkReport {
+    heard: u64::MAX,
+    custody: u64::MAX,
+    refused: u64::MAX,
+    malformed: u64::MAX,
+    wrong: u64::MAX,
+    repeats: u64::MAX,
+    heards: u64::MAX,
+    last: Some(u64::MAX),
+};
 
 /// Sets them of 64 peers and 64 hops, and of the device.
 fn set_greatest(tally: &Tally) {
     for id in 1..=64 {
-        tally.set_peer(&greatest(id));
-        tally.set_wrong(HopId(id), u64::MAX);
+        tally.set_link(Worker::Receiver(PeerId(id)), &GREATEST);
+        tally.set_link(Worker::Sender(HopId(id)), &GREATEST);
     }
     tally.set_rounds(u64::MAX, u64::MAX);
 }
@@ -194,9 +251,9 @@ fn expect_greatest<R: Abort>(rt: &R, alloc: Global) {
     set_greatest(&tally);
     let counted = seen(rt, alloc, tally);
     for (peer, id) in counted.peers.iter().zip(1..=64) {
-        expect!(rt; *peer == greatest(id));
+        expect!(rt; peer.peer == PeerId(id) && peer.link == GREATEST);
     }
-    expect!(rt; counted.wrong.iter().all(|wrong| *wrong == u64::MAX));
+    expect!(rt; counted.hops.iter().all(|link| *link == GREATEST));
     expect!(rt; counted.rounds == u64::MAX && counted.segments == u64::MAX);
 }
 

@@ -164,8 +164,8 @@ fn posts<'a, R: Abort>(
 
 /// The report after one datagram was stored.
 const TOLD: &str = "report 150
-hop 1 taken 1 queued 1 flight 0 dropped 0 released 0 first 0 next 0 count 0 last 0 dropping no moment 0 contact closed until 1000 wrong 0
-peer 1 heard 1 custody 0 refused 0 malformed 0 wrong 0
+hop 1 taken 1 queued 1 flight 0 dropped 0 released 0 first 0 next 0 count 0 last 0 dropping no moment 0 contact closed until 1000 wrong 0 heard 0 custody 0 refused 0 malformed 0 repeats 0 heards 0
+peer 1 heard 1 custody 0 refused 0 malformed 0 wrong 0 repeats 0 heards 0
 device seq 1 rounds 1 segments 0
 ";
 

@@ -4,7 +4,7 @@ ghost use Rattle.std.specs.Prelude.{None};
 ghost use Rattle.rly_plan.specs.Sound.{IsSoundPlan};
 
 use rly_core::{HopId, Params, PeerId};
-use rly_daemon_report::{Counted, PeerCounts, PeerReport};
+use rly_daemon_report::{Counted, LinkReport, PeerReport};
 use rly_daemon_reporter::{Counters, ReportClock, Reporter, ReporterEnd, reporter_run};
 use rly_line::{BatchError, CallError};
 use rly_machine::{Answer, Ask, Command, Machine, Payload, Reply};
@@ -65,17 +65,17 @@ impl Counters for Rising {
         self.looks = self.looks.saturating_add(1);
         let peer = PeerReport {
             peer: PeerId(1),
-            counts: PeerCounts {
+            link: LinkReport {
                 heard: self.looks,
-                ..PeerCounts::new()
+                ..LinkReport::new()
             },
-            wrong: 0,
         };
-        let mut wrong = [0; 64];
-        wrong[1] = self.looks;
+        let mut hops = [LinkReport::new(); 64];
+        hops[1].wrong = self.looks;
+        hops[1].repeats = self.looks;
         Counted {
             peers: [peer; 64],
-            wrong,
+            hops,
             rounds: self.looks,
             segments: 0,
         }
@@ -84,19 +84,19 @@ impl Counters for Rising {
 
 /// The reports at these moments on a spool that has stored one datagram for hop 1.
 const TOLD: &str = "report 120
-hop 1 taken 1 queued 1 flight 0 dropped 0 released 0 first 0 next 0 count 0 last 0 dropping no moment 0 contact open until 200 wrong 0
-hop 2 taken 0 queued 0 flight 0 dropped 0 released 0 first 0 next 0 count 0 last 0 dropping no moment 0 contact closed until 150 wrong 1
-peer 1 heard 1 custody 0 refused 0 malformed 0 wrong 0
+hop 1 taken 1 queued 1 flight 0 dropped 0 released 0 first 0 next 0 count 0 last 0 dropping no moment 0 contact open until 200 wrong 0 heard 0 custody 0 refused 0 malformed 0 repeats 0 heards 0
+hop 2 taken 0 queued 0 flight 0 dropped 0 released 0 first 0 next 0 count 0 last 0 dropping no moment 0 contact closed until 150 wrong 1 heard 0 custody 0 refused 0 malformed 0 repeats 1 heards 0
+peer 1 heard 1 custody 0 refused 0 malformed 0 wrong 0 repeats 0 heards 0
 device seq 1 rounds 1 segments 0
 report 250
-hop 1 taken 1 queued 1 flight 0 dropped 0 released 0 first 0 next 0 count 0 last 0 dropping no moment 0 contact closed wrong 0
-hop 2 taken 0 queued 0 flight 0 dropped 0 released 0 first 0 next 0 count 0 last 0 dropping no moment 0 contact open until 300 wrong 2
-peer 1 heard 2 custody 0 refused 0 malformed 0 wrong 0
+hop 1 taken 1 queued 1 flight 0 dropped 0 released 0 first 0 next 0 count 0 last 0 dropping no moment 0 contact closed wrong 0 heard 0 custody 0 refused 0 malformed 0 repeats 0 heards 0
+hop 2 taken 0 queued 0 flight 0 dropped 0 released 0 first 0 next 0 count 0 last 0 dropping no moment 0 contact open until 300 wrong 2 heard 0 custody 0 refused 0 malformed 0 repeats 2 heards 0
+peer 1 heard 2 custody 0 refused 0 malformed 0 wrong 0 repeats 0 heards 0
 device seq 1 rounds 2 segments 0
 report 4503599627370495
-hop 1 taken 1 queued 1 flight 0 dropped 0 released 0 first 0 next 0 count 0 last 0 dropping no moment 0 contact closed wrong 0
-hop 2 taken 0 queued 0 flight 0 dropped 0 released 0 first 0 next 0 count 0 last 0 dropping no moment 0 contact closed wrong 3
-peer 1 heard 3 custody 0 refused 0 malformed 0 wrong 0
+hop 1 taken 1 queued 1 flight 0 dropped 0 released 0 first 0 next 0 count 0 last 0 dropping no moment 0 contact closed wrong 0 heard 0 custody 0 refused 0 malformed 0 repeats 0 heards 0
+hop 2 taken 0 queued 0 flight 0 dropped 0 released 0 first 0 next 0 count 0 last 0 dropping no moment 0 contact closed wrong 3 heard 0 custody 0 refused 0 malformed 0 repeats 3 heards 0
+peer 1 heard 3 custody 0 refused 0 malformed 0 wrong 0 repeats 0 heards 0
 device seq 1 rounds 3 segments 0
 ";
 

@@ -5,7 +5,7 @@ use Rattle.rly_hop.specs.Payloads.{message_bytes}
 use Rattle.rly_hop.specs.MessageReads.{message_or_fault}
 use Rattle.rly_hop.proofs.Messages.{reading-spelling}
 use Rattle.rly_daemon_report.proofs.Packets.{faulty}
-use Rattle.rly_daemon_report.proofs.peer_counts.message_in.Goals as goal
+use Rattle.rly_daemon_report.proofs.counting.message_in.Goals as goal
 
 pub returns-in-Ok : goal.returns-in-Ok
 returns-in-Ok c =
