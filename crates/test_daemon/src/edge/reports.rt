@@ -258,11 +258,16 @@ fn what_is_sent_is_counted(rt: HostRuntime) {
     expect!(rt; counts == sent);
 }
 
-/// A message with this number in place of its own, the last byte of its number.
-fn numbered<const N: usize>(message: [u8; N], number: u8) -> [u8; N]
-    requires { 16 ≤ N }
-{
-    let mut packet = message;
+/// The Data with this number in place of its own.
+fn data(number: u8) -> [u8; 21] {
+    let mut packet = DATA;
+    packet[15] = number;
+    packet
+}
+
+/// The custody of this number.
+fn custody(number: u8) -> [u8; 16] {
+    let mut packet = CUSTODY;
     packet[15] = number;
     packet
 }
@@ -275,14 +280,14 @@ fn repeats_of_a_peer_are_counted(rt: HostRuntime) {
     counts.hear(OWN, PEER, &DATA, 1);
     counts.hear(OWN, PEER, &DATA, 2);
     expect!(rt; counts.repeats == 0);
-    counts.send(OWN, PEER, &numbered(CUSTODY, 3));
-    counts.send(OWN, PEER, &numbered(CUSTODY, 2));
-    counts.send(PEER, OWN, &numbered(CUSTODY, 9));
-    counts.hear(OWN, PEER, &numbered(DATA, 3), 3);
-    counts.hear(OWN, PEER, &numbered(DATA, 4), 4);
+    counts.send(OWN, PEER, &custody(3));
+    counts.send(OWN, PEER, &custody(2));
+    counts.send(PEER, OWN, &custody(9));
+    counts.hear(OWN, PEER, &data(3), 3);
+    counts.hear(OWN, PEER, &data(4), 4);
     counts.hear(OWN, OWN, &DATA, 5);
-    counts.hear(OWN, PEER, &numbered(DATA, 1), 6);
-    counts.hear(OWN, PEER, &numbered(DATA, 0), 7);
+    counts.hear(OWN, PEER, &data(1), 6);
+    counts.hear(OWN, PEER, &data(0), 7);
     let expected = PeerCounts {
         heard: 7,
         custody: 3,
@@ -354,7 +359,7 @@ fn repeats_to_a_hop_are_counted(rt: HostRuntime) {
         (6, 4),
     ];
     for (number, repeats) in sent {
-        counts.send(PEER, HOP, &numbered(DATA, number));
+        counts.send(PEER, HOP, &data(number));
         expect!(rt; counts.repeats == repeats);
     }
     counts.send(HOP, PEER, &DATA);

@@ -274,27 +274,27 @@ fn refusals_of_others_are_not_told(rt: HostRuntime) {
     }
 }
 
+/// Checks a send of the link below that fails, after which this many Heards were sent, and these packets.
+fn expect_failure<R: Abort>(rt: &R, alloc: Global, fails_at: u64, heards: u64, sent: &[&[u8]]) {
+    let coming: &[&[u8]] = &[&data(1), &data(3)];
+    let acts: &[Act<'_>] = &[
+        Act::Data(1),
+        Act::Data(3),
+        Act::AcknowledgesNot(1),
+        Act::Failed(1),
+        Act::Heards(heards),
+        Act::Acknowledges(1),
+        Act::Heards(heards),
+    ];
+    expect_told(rt, alloc, coming, fails_at, acts, sent);
+}
+
 /// A custody that can't be sent has no Heard after it, and none follows later without new Data. A Heard that can't be
 /// sent is a failure of the call, and counts as sent.
 #[test]
 fn a_failure_of_either_is_told(rt: HostRuntime) {
-    let rows: [(u64, u64, &[&[u8]]); 2] = [
-        (3, 0, &[&custody(1)]),
-        (4, 1, &[&custody(1), &custody(1)]),
-    ];
-    for (fails_at, heards, sent) in rows {
-        let acts: &[Act<'_>] = &[
-            Act::Data(1),
-            Act::Data(3),
-            Act::AcknowledgesNot(1),
-            Act::Failed(1),
-            Act::Heards(heards),
-            Act::Acknowledges(1),
-            Act::Heards(heards),
-        ];
-        let coming: &[&[u8]] = &[&data(1), &data(3)];
-        expect_told(&rt, rt.alloc(), coming, fails_at, acts, sent);
-    }
+    expect_failure(&rt, rt.alloc(), 3, 0, &[&custody(1)]);
+    expect_failure(&rt, rt.alloc(), 4, 1, &[&custody(1), &custody(1)]);
 }
 
 /// A receive that waits returns a due packet at once.

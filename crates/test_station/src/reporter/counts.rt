@@ -71,13 +71,21 @@ struct Used<'a> {
     sent: [&'a [u8]; 2],
 }
 
+/// These counts, whose last packet came at this moment.
+fn with_last(counts: LinkCounts, last: Option<u64>) -> LinkCounts {
+    match counts {
+        LinkCounts::Peer(peer) => LinkCounts::Peer(PeerCounts { last, ..peer }),
+        LinkCounts::Hop(hop) => LinkCounts::Hop(HopCounts { last, ..hop }),
+    }
+}
+
 /// Checks the counts of such a link before its first packet, and after them.
 fn expect_counted<R: Abort + Clock>(
     rt: &R,
     alloc: Global,
     used: Used<'_>,
     new: LinkCounts,
-    expected: impl Fn(Option<u64>) -> LinkCounts,
+    expected: LinkCounts,
 ) {
     let below = link_below(rt, alloc, used.given);
     let mut link = CountedLink::new(below, used.worker, used.own, used.station, rt);
@@ -85,7 +93,7 @@ fn expect_counted<R: Abort + Clock>(
     let before = micros(rt);
     use_link(rt, &mut link, used.given.len(), used.sent);
     let last = last_of(link.counts());
-    expect!(rt; link.counts() == expected(last));
+    expect!(rt; link.counts() == with_last(expected, last));
     let moment = u128::from(last.unwrap_or(0));
     expect!(rt; before <= moment && moment <= micros(rt));
     expect!(rt; link.link().deliveries().len() == 2);
@@ -103,17 +111,16 @@ fn packets_of_a_peer_are_counted(rt: HostRuntime) {
         sent: [&CUSTODY, &REFUSED],
     };
     let new = LinkCounts::Peer(PeerCounts::new());
-    expect_counted(&rt, rt.alloc(), used, new, |last| {
-        LinkCounts::Peer(PeerCounts {
-            heard: 2,
-            custody: 2,
-            refused: 1,
-            malformed: 1,
-            repeats: 0,
-            covered: 1,
-            last,
-        })
+    let expected = LinkCounts::Peer(PeerCounts {
+        heard: 2,
+        custody: 2,
+        refused: 1,
+        malformed: 1,
+        repeats: 0,
+        covered: 1,
+        last: None,
     });
+    expect_counted(&rt, rt.alloc(), used, new, expected);
 }
 
 /// The same of a hop: a Data that is sent again, even by a send that fails, is a repeat.
@@ -127,18 +134,17 @@ fn packets_of_a_hop_are_counted(rt: HostRuntime) {
         sent: [&DATA, &REFUSED],
     };
     let new = LinkCounts::Hop(HopCounts::new());
-    expect_counted(&rt, rt.alloc(), used, new, |last| {
-        LinkCounts::Hop(HopCounts {
-            heard: 2,
-            custody: 1,
-            refused: 0,
-            heards: 0,
-            malformed: 1,
-            repeats: 1,
-            sent: 1,
-            last,
-        })
+    let expected = LinkCounts::Hop(HopCounts {
+        heard: 2,
+        custody: 1,
+        refused: 0,
+        heards: 0,
+        malformed: 1,
+        repeats: 1,
+        sent: 1,
+        last: None,
     });
+    expect_counted(&rt, rt.alloc(), used, new, expected);
 }
 
 /// Two peers and two hops.
