@@ -58,8 +58,15 @@ BAD_SERVES = [
     (["serve", "spool", "plan.toml", "--report=x"], "a report of letters"),
     (["serve", "spool", "plan.toml", "--report=-1"], "a report below 0"),
     (["serve", "spool", "plan.toml", "--report=0.5"], "half a report"),
+    (["serve", "spool", "plan.toml", "--gather=x"], "a pause of letters"),
+    (["serve", "spool", "plan.toml", "--gather=-1"], "a pause below 0"),
+    (["serve", "spool", "plan.toml", "--gather="], "an empty pause"),
+    (["serve", "spool", "plan.toml", "--gather=60001"], "too long a pause"),
+    (["serve", "spool", "plan.toml", "--gather=18446744073709551616"], "a pause past 64 bits"),
+    (["play", "spool", "--gather=1"], "an option of serve alone"),
     (["serve", "spool", "plan.toml", "--batch=1"], "an unknown option"),
     (["serve", "--turns=1", "spool", "plan.toml", "--turns=1"], "a repeated option"),
+    (["serve", "--gather=1", "spool", "plan.toml", "--gather=1"], "a repeated option"),
 ]
 
 BAD_KEYS = [

@@ -159,6 +159,24 @@ class Numbers(Texts):
             ("station = 7", "station = 7\nrate = 160", 54),
         ])
 
+    def test_lead_is_a_whole_number_in_its_range(self):
+        self.expect_numbers([
+            ("resend = 160", "lead = 0", 0),
+            ("resend = 160", "lead = 30", 0),
+            ("resend = 160", "lead = 86400", 0),
+            ("resend = 160", "resend = 160\nrate = 160\nlead = 160", 0),
+            ("resend = 160", "lead = 86401", 53),
+            ("resend = 160", "lead = -1", 53),
+            ("resend = 160", "lead = 4294967297", 53),
+            ("resend = 160", "lead = '30'", 50),
+            ("resend = 160", "lead = 30.0", 50),
+            ("resend = 160", "lead = { seconds = 30 }", 54),
+            ("resend = 160", "lead = 30\nlead = 30", 50),
+            ("destination", "lead = 30\ndestination", 54),
+            ("station = 3", "station = 3\nlead = 30", 54),
+            ("station = 7", "station = 7\nlead = 30", 54),
+        ])
+
     def test_resend_is_a_whole_number_in_its_range(self):
         self.expect_numbers([
             ("resend = 160\n", "", 0),
@@ -264,6 +282,7 @@ class Places(Texts):
             ("station = 3", "station = 3\ncolor = 1", "54 peer[1]"),
             ("station = 3", "station = 3\nresend = 160", "54 peer[1].resend"),
             ("station = 3", "station = 3\nrate = 1", "54 peer[1].rate"),
+            ("station = 3", "station = 3\nlead = 1", "54 peer[1].lead"),
             ("[300, 350]", "{ begin = 300, end = 350 }", "54 hop[1].contacts"),
             ("station = 9", "station = 9\nkey = { file = 'a' }", "54 hop[1].key"),
             ("hop = 1\n", "hop = 1\nid = 1\n", "54 route[1].id"),
@@ -280,6 +299,7 @@ class Places(Texts):
             ("station = 3", "station = 3\nkey = 3", "50 peer[1].key"),
             ("resend = 160", "resend = '160'", "50 hop[1].resend"),
             ("resend = 160", "rate = '160'", "50 hop[1].rate"),
+            ("resend = 160", "lead = '160'", "50 hop[1].lead"),
             ("contacts = [[100, 200], [300, 350]]\n", "", "50 hop[1].contacts"),
             ("[[100, 200], [300, 350]]", "100", "50 hop[1].contacts"),
             ("[300, 350]", "[300]", "50 hop[1].contacts[2]"),
@@ -304,6 +324,7 @@ class Places(Texts):
             ("id = 1\nstation = 9", "id = 0\nstation = 9", "53 hop[1].id"),
             ("resend = 160", "resend = 9", "53 hop[1].resend"),
             ("resend = 160", "rate = 0", "53 hop[1].rate"),
+            ("resend = 160", "lead = 86401", "53 hop[1].lead"),
             ("[300, 350]", "[300, 300]", "53 hop[1].contacts[2]"),
             ("[100, 200]", "[-1, 200]", "53 hop[1].contacts[1]"),
             ("destination = 12", "destination = 0", "53 route[1].destination"),

@@ -114,6 +114,18 @@ hop = [
 """
 
 
+# Four hops, of which the second has no `lead`, and the fourth one of no time.
+LEADS = """station = 7
+peer = [{ id = 1, station = 3, listen = '', remote = '' }]
+hop = [
+  { id = 1, station = 9, listen = '', remote = '', lead = 1, contacts = [] },
+  { id = 2, station = 10, listen = '', remote = '', contacts = [] },
+  { id = 3, station = 11, listen = '', remote = '', contacts = [], lead = 86_400, rate = 5 },
+  { id = 4, station = 12, listen = '', remote = '', contacts = [], lead = 0 },
+]
+"""
+
+
 class PlanTexts(Rows):
     def here(self, text):
         """A text with the folder of this test in place of its word."""
@@ -191,6 +203,14 @@ class PlanTexts(Rows):
             "hop 1 resend 160 rate 1 contacts 0 open 0",
             "hop 2 resend 160 contacts 0 open 0",
             "hop 3 resend 160 rate 1000000000 contacts 0 open 0",
+        ])
+
+    def test_each_hop_has_its_lead(self):
+        self.assertEqual(self.lines_with("resend", LEADS), [
+            "hop 1 resend 160 lead 1 contacts 0 open 0",
+            "hop 2 resend 160 contacts 0 open 0",
+            "hop 3 resend 160 rate 5 lead 86400 contacts 0 open 0",
+            "hop 4 resend 160 contacts 0 open 0",
         ])
 
     def test_the_greatest_plan_is_told(self):

@@ -36,6 +36,14 @@ CUSTODY = bytes.fromhex("524c0102000700030000000000000001")
 AHEAD = bytes.fromhex("524c01010003000700000000000000030003000c41")
 HEARD = bytes.fromhex("524c01050007000300000000000000014000000000000000")
 
+# A second peer, station 4, at two ports.
+SECOND_PEER = """[[peer]]
+id = 2
+station = 4
+listen = "127.0.0.1:{}"
+remote = "127.0.0.1:{}"
+"""
+
 # What station 9 sends as the next hop: Custody, Refused and Heard of number 1, one to another station, and no message.
 ANSWERS = [
     bytes.fromhex("524c0102000900070000000000000001"),
@@ -91,7 +99,7 @@ LINKS = [
         1,
         "192.0.2.1:4019",
         "FREE",
-        "rly: link failed\nrly: hop 1: listen 192.0.2.1:4019: Cannot assign requested address (os error 99)\n",
+        "rly: link failed\nrly: peer 1: listen 192.0.2.1:4019: Cannot assign requested address (os error 99)\n",
     ),
     (1, 1, "FREE", "127.0.0.1:x", "rly: link failed\nrly: peer 1: remote 127.0.0.1:x: invalid port value\n"),
     (1, 1, "FREE", "FREE", "rly: link failed\nrly: hop 1: listen FREE: Address already in use (os error 98)\n"),
@@ -117,7 +125,7 @@ def is_free(port):
 
 
 def free_ports(count):
-    """So many ports that are free. None is of those that the system picks by itself, since a relay has sockets at such ports."""
+    """So many ports that are free. None is of those that the system picks by itself, which another program may get meanwhile."""
     ports = random.sample(range(20_000, 30_000), 1_000)
     return list(itertools.islice(filter(is_free, ports), count))
 
@@ -133,6 +141,16 @@ def greatest_plan(port):
 def last_of(text, word):
     """The last line that begins with a word, without its end."""
     return [line for line in text.splitlines() if line.startswith(word)][-1]
+
+
+def datagram(station, number):
+    """A datagram from a station to station 7, with the payload of `DATA`."""
+    return DATA[:4] + station.to_bytes(2, "big") + DATA[6:8] + number.to_bytes(8, "big") + DATA[16:]
+
+
+def custody(station, number):
+    """Its custody."""
+    return CUSTODY[:6] + station.to_bytes(2, "big") + number.to_bytes(8, "big")
 
 
 def bound(port):
@@ -236,6 +254,36 @@ class Serving(Stations):
         self.assertEqual((run.returncode, output, errors.decode()), (1, b"", BROKEN))
         self.assertIsNone(neighbour.heard)
         self.expect("audit", "device", output=NONE_TAKEN)
+
+
+class Pauses(Stations):
+    def given_by_both(self, run, number):
+        """Two neighbours give a relay a datagram each, one after the other. The seconds until the first custody, and both custodies."""
+        with bound(self.ports[1]) as one, bound(self.ports[5]) as other:
+            began = time.monotonic()
+            one.sendto(datagram(3, number), ("127.0.0.1", self.ports[0]))
+            time.sleep(0.1)
+            other.sendto(datagram(4, number), ("127.0.0.1", self.ports[4]))
+            first = one.recv(64)
+            return time.monotonic() - began, (first, other.recv(64))
+
+    def test_a_round_gathers_in_its_pause(self):
+        """What two neighbours give one after the other within its pause is taken in one round, after the pause."""
+        self.ports = free_ports(6)
+        plan = PLAN.format(*self.ports[:4]).replace("[[hop]]", SECOND_PEER.format(*self.ports[4:]) + "[[hop]]")
+        self.write("plan", plan)
+        words = ["--hops=1", "--peers=2", "--items=16", "--bytes=4096"]
+        self.expect("format", "device", *words, output="formatted 320804\n")
+        run = self.start("serve", "device", "plan", "--report=1", "--gather=1000")
+        self.assertIn(b"2 peers", run.stderr.readline())
+        for number in (1, 2):
+            seconds, custodies = self.given_by_both(run, number)
+            self.assertEqual(custodies, (custody(3, number), custody(4, number)))
+            self.assertGreaterEqual(seconds, 1.0)
+        device = ""
+        while not device.startswith("device seq 4 "):
+            device = last_of(self.answer(run).decode(), "device ")
+        self.assertEqual(device, "device seq 4 rounds 2 segments 0")
 
 
 class Starts(Stations):

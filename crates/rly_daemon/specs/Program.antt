@@ -84,7 +84,7 @@ IsDone (Play file batch) before behind left old new told_old told_new =
     HasPlayed batch left old new × (told_new ≡ told_old)
 IsDone (Audit file) before behind left old new told_old told_new =
     (behind ≡ before) × HasReport old new × (told_new ≡ told_old)
-IsDone (Serve file plan turns report) before behind left old new told_old told_new = (behind ≡ before)
+IsDone (Serve file plan turns report gather) before behind left old new told_old told_new = (behind ≡ before)
     × HasServedWith turns report old new told_new
 IsDone Key before behind left old new told_old told_new =
     (behind ≡ before) × HasKey old new × (told_new ≡ told_old)

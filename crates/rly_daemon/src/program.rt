@@ -13,6 +13,7 @@ use rly_daemon_commands::{
     CommandFault, run_audit, run_format, run_plan, run_play, run_sim, write_key,
 };
 use rly_daemon_lines::TextFault;
+use rly_daemon_serve::RelaySettings;
 use rly_station::Cause;
 use std::convert::AsStr;
 use std::fmt::Display;
@@ -22,7 +23,7 @@ use std::net::Net;
 use std::random::RandomSource;
 use std::sync::Wait;
 use std::thread::Threads;
-use std::time::Clock;
+use std::time::{Clock, Duration};
 
 /// The requirements of the program on its runtime. Only `rly serve` uses the network, and starts threads and waits
 /// for them; only `rly key` uses randomness.
@@ -116,7 +117,14 @@ fn obey<H: Host, R: Read, W: Write + Send, E: Write>(
             plan,
             turns,
             report,
-        } => run_serving(rt, file, plan, turns, report, writer, errors),
+            gather,
+        } => {
+            let settings = RelaySettings {
+                turns,
+                gather: Duration::from_millis(gather),
+            };
+            run_serving(rt, file, plan, settings, report, writer, errors)
+        }
         Settings::Key => {
             write_key(rt, writer)?;
             Ok(())

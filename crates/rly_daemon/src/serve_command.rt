@@ -13,7 +13,7 @@ use rly_core::Refusal;
 use rly_daemon_commands::{CommandFault, FileDisk, open_journal, refusal_with_cause};
 use rly_daemon_lines::TextFault;
 use rly_daemon_reporter::{ReporterEnd, Tally};
-use rly_daemon_serve::{Reports, serve, serve_reporting};
+use rly_daemon_serve::{RelaySettings, Reports, serve, serve_reporting};
 use rly_disk::Disk;
 use rly_journal::Journal;
 use rly_plan::Plan;
@@ -30,19 +30,19 @@ pub(crate) fn run_serving<H: Host, W: Write + Send, E: Write>(
     rt: &H,
     file: &str,
     path: &str,
-    turns: u64,
+    settings: RelaySettings,
     seconds: u64,
     writer: &mut W,
     errors: &mut E,
 ) -> Result<(), CommandFault>
     ensures served { OnOk result
-        (HasServedWith turns seconds (W.contents writer.old) (W.contents writer.new) (E.contents errors.new)) }
+        (HasServedWith settings.turns seconds (W.contents writer.old) (W.contents writer.new) (E.contents errors.new)) }
 {
     let plan = read_plan(rt, path)?;
     if seconds == 0 {
-        serve_plan(rt, file, path, &plan, turns, errors)
+        serve_plan(rt, file, path, &plan, settings, errors)
     } else {
-        report_plan(rt, file, path, &plan, turns, seconds, writer, errors)
+        report_plan(rt, file, path, &plan, settings, seconds, writer, errors)
     }
 }
 
@@ -52,17 +52,17 @@ fn serve_plan<H: Host, E: Write>(
     file: &str,
     path: &str,
     plan: &Plan,
-    turns: u64,
+    settings: RelaySettings,
     errors: &mut E,
 ) -> Result<(), CommandFault>
     requires { IsSoundPlan plan.now }
-    ensures served { OnOk result (HasServed turns (E.contents errors.new)) }
+    ensures served { OnOk result (HasServed settings.turns (E.contents errors.new)) }
 {
     let keys = read_keys(rt, plan, path)?;
     let lines = shared_lines(rt.alloc())?;
     let (journal, size) = open_file(rt, file, &lines)?;
-    match serve(rt, journal, plan, keys, turns, size, lines, errors) {
-        Ok(_relayed) => report_end(turns, errors),
+    match serve(rt, journal, plan, keys, settings, size, lines, errors) {
+        Ok(_relayed) => report_end(settings.turns, errors),
         Err(failed) => Err(fault_of(failed)),
     }
 }
@@ -73,14 +73,14 @@ fn report_plan<H: Host, W: Write + Send, E: Write>(
     file: &str,
     path: &str,
     plan: &Plan,
-    turns: u64,
+    settings: RelaySettings,
     seconds: u64,
     writer: &mut W,
     errors: &mut E,
 ) -> Result<(), CommandFault>
     requires { IsSoundPlan plan.now }
     ensures served { OnOk result
-        (HasServedReporting turns (W.contents writer.old) (W.contents writer.new) (E.contents errors.new)) }
+        (HasServedReporting settings.turns (W.contents writer.old) (W.contents writer.new) (E.contents errors.new)) }
 {
     let keys = read_keys(rt, plan, path)?;
     let lines = shared_lines(rt.alloc())?;
@@ -92,9 +92,9 @@ fn report_plan<H: Host, W: Write + Send, E: Write>(
         stop_flag: &stop_flag,
     };
     match serve_reporting(
-        rt, journal, plan, keys, turns, size, lines, reports, writer, errors,
+        rt, journal, plan, keys, settings, size, lines, reports, writer, errors,
     ) {
-        Ok(reported) => reports_ended(turns, reported.into_end(), errors),
+        Ok(reported) => reports_ended(settings.turns, reported.into_end(), errors),
         Err((fault, disk)) => Err(fault_of((fault, disk.into_inner()))),
     }
 }

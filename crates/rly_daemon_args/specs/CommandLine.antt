@@ -41,6 +41,10 @@ path_rule name = record (new_rule name) { action = Some Set; value_names = 1; re
 abbrev pub batch_rule : Rule
 batch_rule = record (option_rule (codes "batch") (codes "1")) { parser = Some (parser.Unsigned 1 64) }
 
+-- the milliseconds for which a round waits for more calls, 0 to 60,000
+abbrev pub gather_rule : Rule
+gather_rule = record (option_rule (codes "gather") (codes "0")) { parser = Some (parser.Unsigned 0 60000) }
+
 -- the moment at which a plan is shown, below 2^52
 abbrev pub at_rule : Rule
 at_rule = record (number_rule (codes "at")) { parser = Some (parser.Unsigned 0 4503599627370495) }
@@ -77,10 +81,11 @@ unfoldable pub audit_app : App
 audit_app = with_rule (new_app (codes "audit")) (path_rule (codes "file"))
 
 unfoldable pub serve_app : App
-serve_app = with_rule (with_rule (with_rule (with_rule (new_app (codes "serve"))
+serve_app = with_rule (with_rule (with_rule (with_rule (with_rule (new_app (codes "serve"))
     (path_rule (codes "file"))) (path_rule (codes "plan")))
     (option_rule (codes "turns") (codes "0")))
-    (option_rule (codes "report") (codes "0"))
+    (option_rule (codes "report") (codes "0")))
+    gather_rule
 
 unfoldable pub key_app : App
 key_app = new_app (codes "key")
@@ -152,11 +157,12 @@ IsSettings (Some (command, rows)) (Play file batch) = (command ≡ codes "play")
     × (file.now ≡ path_in (codes "file") rows)
     × HasNumber rows (codes "batch") 1 batch
 IsSettings (Some (command, rows)) (Audit file) = (command ≡ codes "audit") × (file.now ≡ path_in (codes "file") rows)
-IsSettings (Some (command, rows)) (Serve file plan turns report) = (command ≡ codes "serve")
+IsSettings (Some (command, rows)) (Serve file plan turns report gather) = (command ≡ codes "serve")
     × (file.now ≡ path_in (codes "file") rows)
     × (plan.now ≡ path_in (codes "plan") rows)
     × HasNumber rows (codes "turns") 0 turns
     × HasNumber rows (codes "report") 0 report
+    × HasNumber rows (codes "gather") 0 gather
 IsSettings (Some (command, rows)) Key = command ≡ codes "key"
 IsSettings (Some (command, rows)) (Plan plan at) = (command ≡ codes "plan")
     × (plan.now ≡ path_in (codes "plan") rows)

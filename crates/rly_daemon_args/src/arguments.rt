@@ -1,7 +1,7 @@
 ghost use Rattle.std.specs.Prelude.{◌≡◌, false};
 ghost use Rattle.clap.specs.Words.{App, Rule, rule_of, with_rule};
 ghost use Rattle.rly_daemon_args.specs.HelpersBuilt.{IsBuilt};
-ghost use Rattle.rly_daemon_args.specs.CommandLine.{at_rule, batch_rule, flag_rule, number_rule, option_rule};
+ghost use Rattle.rly_daemon_args.specs.CommandLine.{at_rule, batch_rule, flag_rule, gather_rule, number_rule, option_rule};
 ghost use Rattle.rly_daemon_args.specs.CommandLine.{path_rule, with_more_rules, with_param_rules};
 
 use clap::{Arg, ArgAction, Command, value_parser};
@@ -10,6 +10,9 @@ use std::alloc::{AllocError, Global};
 
 /// Maximum number of lines per round.
 const MAX_BATCH: i64 = limits::MAX_ROUND as i64;
+
+/// The longest wait of a round for more calls, in milliseconds.
+const MAX_GATHER: i64 = 60_000;
 
 /// The last moment of a plan, in microseconds since the Unix epoch.
 const LAST_MOMENT: i64 = limits::MOMENT_LIMIT as i64 - 1;
@@ -164,6 +167,20 @@ pub(crate) fn batch<'a>(alloc: Global) -> Arg<'a>
         "Lines per round (synced and answered together), 1 to 64",
     )
     .value_parser(value_parser!(u64).range(1..=MAX_BATCH))
+}
+
+/// The option for the wait of a round for more calls.
+pub(crate) fn gather<'a>(alloc: Global) -> Arg<'a>
+    ensures rule { rule_of result ≡ gather_rule }
+    ensures own { result.global ≡ false }
+{
+    option(
+        alloc,
+        "gather",
+        "0",
+        "Milliseconds for which a round that writes waits for more calls to share its syncs, 0 to 60000",
+    )
+    .value_parser(value_parser!(u64).range(0..=MAX_GATHER))
 }
 
 /// The option for the moment at which a plan is shown.

@@ -23,8 +23,12 @@ const DEFAULT_TURNS: u64 = 0;
 /// The default number of seconds between two reports: 0, off.
 const DEFAULT_REPORT: u64 = 0;
 
-/// Parses a command line, the program's name first. Faults are a value that is no `u64`, a batch out of its limits,
-/// an unknown or a repeated option, and a missing command or file; all other limits are checked later.
+/// The default number of milliseconds for which a round waits for more calls: 0, not at all.
+const DEFAULT_GATHER: u64 = 0;
+
+/// Parses a command line, the program's name first. Faults are a value that is no `u64`, a batch, a moment or a wait of a
+/// round out of its limits, an unknown or a repeated option, and a missing command or file; all other limits are checked
+/// later.
 pub fn settings<'a, S: AsStr>(alloc: Global, words: &'a [S]) -> Result<Settings<'a>, SettingsFault>
     // Each name, number and file is that of clap's matches, or the default.
     ensures asked { IfOk result (λ settings. IsSettings (asked_of (map S.text words.now)) settings) }
@@ -88,6 +92,7 @@ fn settings_of<'a>(matches: &ArgMatches<'a>) -> Option<Settings<'a>>
         plan: path_of(options, "plan"),
         turns: number_of(options, "turns", DEFAULT_TURNS),
         report: number_of(options, "report", DEFAULT_REPORT),
+        gather: number_of(options, "gather", DEFAULT_GATHER),
     })
 }
 

@@ -4,7 +4,9 @@ ghost use Rattle.rly_daemon_args.specs.HelpersBuilt.{IsBuilt};
 ghost use Rattle.rly_daemon_args.specs.CommandLine.{audit_app, format_app, key_app, plan_app, play_app, rly_app};
 ghost use Rattle.rly_daemon_args.specs.CommandLine.{rly_top, serve_app, sim_app};
 
-use crate::arguments::{at, batch, flag, number, with_arg, with_option, with_params, with_path};
+use crate::arguments::{
+    at, batch, flag, gather, number, with_arg, with_option, with_params, with_path,
+};
 use clap::Command;
 use std::alloc::{AllocError, Global};
 
@@ -178,13 +180,14 @@ fn serve<'a>(alloc: Global) -> Result<Command<'a>, AllocError>
         "0",
         "Stop after N turns of each worker (a turn waits at most about 10 ms for a packet); 0 = run until stopped",
     );
-    with_option(
+    let with_report = with_option(
         alloc,
         with_turns,
         "report",
         "0",
         "Seconds between reports on standard output: queues, CoDel, packets, device; 0 = off",
-    )
+    );
+    with_arg(with_report, gather(alloc))
 }
 
 fn key<'a>(alloc: Global) -> Command<'a>

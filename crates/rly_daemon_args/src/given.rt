@@ -46,6 +46,8 @@ pub enum Settings<'a> {
         turns: u64,
         /// Seconds between two reports: 0 = off.
         report: u64,
+        /// Milliseconds for which a round waits for more calls, 0 to 60,000: 0 = not at all.
+        gather: u64,
     },
     /// A new key of a link.
     Key,

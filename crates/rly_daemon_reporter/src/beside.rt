@@ -17,6 +17,7 @@ use std::snapshot::Snapshot;
 use std::sync::{OnceLock, Wait};
 use std::thread;
 use std::thread::{Promise, Scope, Threads};
+use std::time::{Clock, Duration};
 
 /// A task that runs in parallel with a relay. The thread's closure holds a value of a type parameter: of a `&mut`
 /// that it held itself nothing would be known afterwards.
@@ -36,6 +37,8 @@ pub(crate) trait Task {
 #[derive(Drop)]
 pub(crate) struct Work<D: Disk, L: Link, T: Turn, K: Waker> {
     pub(crate) journal: Journal<D>,
+    /// The pause of a round, in which it gathers more calls.
+    pub(crate) gather: Duration,
     pub(crate) posts: Vec<Post<L, T, K>>,
     pub(crate) seats: Vec<Seat>,
     pub(crate) line_end: LineEnd,
@@ -55,18 +58,20 @@ pub(crate) struct Both<D: Disk, L: Link, T: Turn, K: Waker, A> {
 /// Runs a relay, and in parallel a task that has one seat of its queue. If there is no thread for the task, the
 /// relay doesn't wait for that seat, and the task runs after the relay.
 pub(crate) fn run_beside<
-    R: Threads + Wait + Sync,
+    R: Threads + Wait + Clock + Sync,
     D: Disk + Drop,
     L: Link + Drop + Send,
     T: Turn + Drop + Send,
     K: Waker + Drop + Send,
     S: Task<Output = A> + Drop + Send,
     A: Drop + Send,
+    B: Waker,
 >(
     rt: &R,
     alloc: Global,
     plan: &Plan,
     work: Work<D, L, T, K>,
+    bell: &mut B,
     task: S,
     stop_flag: &OnceLock<bool>,
 ) -> Both<D, L, T, K, A>
@@ -84,7 +89,7 @@ pub(crate) fn run_beside<
             ensures gives { S.run_gives task result.output }
             ensures relayed { HasRelayed D.state L.heard L.sent T.told T.endless K.woken plan.entry.now work
                 result.relayed }
-        { run_in(scope, rt, alloc, plan, work, task, stop_flag) },
+        { run_in(scope, rt, alloc, plan, work, bell, task, stop_flag) },
     )
 }
 
@@ -92,19 +97,21 @@ pub(crate) fn run_beside<
 fn run_in<
     's,
     E,
-    R: Threads + Wait + Sync,
+    R: Threads + Wait + Clock + Sync,
     D: Disk + Drop,
     L: Link + Drop + Send,
     T: Turn + Drop + Send,
     K: Waker + Drop + Send,
     S: Task<Output = A> + Drop + Send + 's,
     A: Drop + Send + 's,
+    B: Waker,
 >(
     scope: &Scope<'s, E>,
     rt: &R,
     alloc: Global,
     plan: &Plan,
     work: Work<D, L, T, K>,
+    bell: &mut B,
     task: S,
     stop_flag: &OnceLock<bool>,
 ) -> Both<D, L, T, K, A>
@@ -124,7 +131,7 @@ fn run_in<
     );
     match started {
         Ok(thread) => {
-            let relayed = relay(rt, alloc, plan, work, stop_flag, 0);
+            let relayed = relay(rt, alloc, plan, work, bell, stop_flag, 0);
             Both {
                 relayed,
                 output: thread.join(rt),
@@ -132,7 +139,7 @@ fn run_in<
             }
         }
         Err(refused) => {
-            let relayed = relay(rt, alloc, plan, work, stop_flag, 1);
+            let relayed = relay(rt, alloc, plan, work, bell, stop_flag, 1);
             let task = refused.value;
             Both {
                 relayed,
@@ -145,16 +152,18 @@ fn run_in<
 
 /// Runs a relay; `gone` of its seats were dropped.
 fn relay<
-    R: Threads + Wait + Sync,
+    R: Threads + Wait + Clock + Sync,
     D: Disk + Drop,
     L: Link + Drop + Send,
     T: Turn + Drop + Send,
     K: Waker + Drop + Send,
+    B: Waker,
 >(
     rt: &R,
     alloc: Global,
     plan: &Plan,
     work: Work<D, L, T, K>,
+    bell: &mut B,
     stop_flag: &OnceLock<bool>,
     gone: usize,
 ) -> Result<Relayed<D, L, T, K>, Journal<D>>
@@ -163,13 +172,16 @@ fn relay<
 {
     let Work {
         journal,
+        gather,
         posts,
         seats,
         line_end,
     } = work;
     let mut line_end = line_end;
     line_end.forget(gone);
-    run_relay_at(rt, alloc, journal, plan, posts, seats, line_end, stop_flag)
+    run_relay_at(
+        rt, alloc, journal, gather, plan, posts, bell, seats, line_end, stop_flag,
+    )
 }
 
 /// The result of a task's thread.

@@ -8,7 +8,7 @@ ghost use Rattle.rly_link.specs.LinkHistory.{FailuresRose, TellsMore, new_hearin
 use http_server::Log;
 use rly_daemon_report::{HopCounts, LinkCounts, PeerCounts};
 use rly_hop::StationId;
-use rly_link::{Link, LinkFault, PacketLog, Worker, bytes_in};
+use rly_link::{Link, LinkFault, PacketLog, Sleep, Worker, bytes_in};
 use std::marker::Model;
 use std::time::{Clock, Duration};
 
@@ -111,10 +111,10 @@ impl<L: Link, C: Clock + Drop> Link for CountedLink<L, C> {
 
     ghost failed = { λ c. L.failed c.link };
 
-    fn recv(&mut self, buffer: &mut [u8]) -> Result<Option<usize>, LinkFault>
+    fn recv(&mut self, sleep: Sleep, buffer: &mut [u8]) -> Result<Option<usize>, LinkFault>
         ensures bound { IfOk result (λ found. IfSome found (λ count. count ≤ length buffer.new)) }
         ensures heard { TellsMore (L.heard self.old.link) (L.heard self.new.link)
-            (new_hearing true (packet_of result buffer.new) ∷ []) }
+            (new_hearing sleep (packet_of result buffer.new) ∷ []) }
         ensures sent { L.sent self.new.link ≡ L.sent self.old.link }
         ensures rise { OnErr result (FailuresRose (L.failed self.old.link) (L.failed self.new.link)) }
         ensures no_failure { OnOk result (L.failed self.new.link ≡ L.failed self.old.link) }
@@ -122,23 +122,7 @@ impl<L: Link, C: Clock + Drop> Link for CountedLink<L, C> {
         ensures counted { (moment : ℕ)
             × (self.new.events ≡ self.old.events ++ heard_then moment (packet_of result buffer.new)) }
     {
-        let found = self.link.recv(buffer)?;
-        self.note(found, buffer);
-        Ok(found)
-    }
-
-    fn try_recv(&mut self, buffer: &mut [u8]) -> Result<Option<usize>, LinkFault>
-        ensures bound { IfOk result (λ found. IfSome found (λ count. count ≤ length buffer.new)) }
-        ensures heard { TellsMore (L.heard self.old.link) (L.heard self.new.link)
-            (new_hearing false (packet_of result buffer.new) ∷ []) }
-        ensures sent { L.sent self.new.link ≡ L.sent self.old.link }
-        ensures rise { OnErr result (FailuresRose (L.failed self.old.link) (L.failed self.new.link)) }
-        ensures no_failure { OnOk result (L.failed self.new.link ≡ L.failed self.old.link) }
-        // A returned packet is counted, and nothing else.
-        ensures counted { (moment : ℕ)
-            × (self.new.events ≡ self.old.events ++ heard_then moment (packet_of result buffer.new)) }
-    {
-        let found = self.link.try_recv(buffer)?;
+        let found = self.link.recv(sleep, buffer)?;
         self.note(found, buffer);
         Ok(found)
     }

@@ -24,6 +24,7 @@ use std::marker::Brand;
 use std::snapshot::Snapshot;
 use std::sync::{OnceLock, Wait};
 use std::thread::Threads;
+use std::time::{Clock, Duration};
 
 /// A reporter after its end, which had a seat of a relay's queue.
 #[derive(Drop)]
@@ -81,7 +82,7 @@ impl<
 /// workers are to end or the relay has ended: a `ReportClock` that reads it should end. If there is no thread for the
 /// reporter the relay runs without it.
 pub fn run_reported<
-    R: Threads + Wait + Sync,
+    R: Threads + Wait + Clock + Sync,
     D: Disk + Drop,
     L: Link + Drop + Send,
     T: Turn + Drop + Send,
@@ -89,12 +90,15 @@ pub fn run_reported<
     P: ReportClock + Drop + Send,
     C: Counters + Drop + Send,
     W: Write + Send,
+    B: Waker,
 >(
     rt: &R,
     alloc: Global,
     journal: Journal<D>,
+    gather: Duration,
     plan: &Plan,
     posts: Vec<Post<L, T, K>>,
+    bell: &mut B,
     pace: P,
     counters: C,
     writer: &mut W,
@@ -130,6 +134,7 @@ pub fn run_reported<
     };
     let work = Work {
         journal,
+        gather,
         posts,
         seats,
         line_end,
@@ -138,7 +143,7 @@ pub fn run_reported<
         relayed,
         output: (writer, left),
         had_thread,
-    } = run_beside(rt, alloc, plan, work, watch, stop_flag);
+    } = run_beside(rt, alloc, plan, work, bell, watch, stop_flag);
     take_back(writer);
     let mut relayed = relayed?;
     let seat = Snapshot::of(&left.seat);

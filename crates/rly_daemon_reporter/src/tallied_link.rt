@@ -8,13 +8,13 @@ use crate::counted_link::CountedLink;
 use crate::tally::Tally;
 use rly_daemon_report::LinkReport;
 use rly_hop::StationId;
-use rly_link::{Link, LinkFault, Worker};
+use rly_link::{Link, LinkFault, Sleep, Worker};
 use rly_link_auth::MeteredLink;
 use std::alloc::Global;
 use std::sync::Arc;
 use std::time::Clock;
 
-/// The link to a neighbour, which stores its counts in a tally after each call.
+/// The link to a neighbour, which stores its counts in a tally after each call, and before it whether its sender rests.
 #[derive(Drop)]
 pub struct TalliedLink<L: MeteredLink, C: Clock + Drop> {
     link: CountedLink<L, C>,
@@ -56,19 +56,15 @@ impl<L: MeteredLink, C: Clock + Drop> Link for TalliedLink<L, C> {
 
     ghost failed = { λ l. L.failed (link_below l) };
 
-    fn recv(&mut self, buffer: &mut [u8]) -> Result<Option<usize>, LinkFault> {
-        let outcome = self.link.recv(buffer);
-        self.tell();
-        outcome
-    }
-
-    fn try_recv(&mut self, buffer: &mut [u8]) -> Result<Option<usize>, LinkFault> {
-        let outcome = self.link.try_recv(buffer);
+    fn recv(&mut self, sleep: Sleep, buffer: &mut [u8]) -> Result<Option<usize>, LinkFault> {
+        self.tally.note_receive(self.link.worker(), sleep);
+        let outcome = self.link.recv(sleep, buffer);
         self.tell();
         outcome
     }
 
     fn send(&mut self, packet: &[u8]) -> Result<(), LinkFault> {
+        self.tally.note_send(self.link.worker());
         let outcome = self.link.send(packet);
         self.tell();
         outcome

@@ -2,8 +2,9 @@
 
 use crate::counters::Counters;
 use rly_core::PeerId;
+use rly_daemon_events::{Rests, rest_at};
 use rly_daemon_report::{Counted, LinkReport, PeerReport};
-use rly_link::Worker;
+use rly_link::{Sleep, Worker};
 use rly_plan::Plan;
 use std::alloc::{AllocError, Global};
 use std::sync::Arc;
@@ -17,6 +18,8 @@ pub struct Tally {
     hops: Vec<LinkTally>,
     rounds: AtomicU64,
     segments: AtomicU64,
+    /// The senders that rest, if they are watched.
+    rests: Option<Arc<Rests, Global>>,
 }
 
 /// The counts of a neighbour's link.
@@ -41,7 +44,14 @@ impl Tally {
             hops: new_links(alloc, plan.hop_count())?,
             rounds: AtomicU64::new(0),
             segments: AtomicU64::new(0),
+            rests: None,
         })
+    }
+
+    /// The same, which marks the senders that rest.
+    pub fn with_rests(mut self, rests: Arc<Rests, Global>) -> Tally {
+        self.rests = Some(rests);
+        self
     }
 
     /// Stores the counts of a worker's link.
@@ -59,6 +69,27 @@ impl Tally {
     pub fn set_rounds(&self, rounds: u64, segments: u64) {
         self.rounds.store(rounds, Ordering::SeqCst);
         self.segments.store(segments, Ordering::SeqCst);
+    }
+}
+
+impl Tally {
+    /// A worker's link is about to receive, and waits this long.
+    pub fn note_receive(&self, worker: Worker, sleep: Sleep) {
+        if let Some(rests) = rest_at(sleep) {
+            self.set_rest(worker, rests);
+        }
+    }
+
+    /// A worker's link sends: its sender doesn't rest.
+    pub fn note_send(&self, worker: Worker) {
+        self.set_rest(worker, false);
+    }
+
+    /// Marks whether a worker rests, if it is a sender and they are watched.
+    fn set_rest(&self, worker: Worker, is_resting: bool) {
+        if let (Some(rests), Worker::Sender(hop)) = (&self.rests, worker) {
+            rests.set(hop, is_resting);
+        }
     }
 }
 

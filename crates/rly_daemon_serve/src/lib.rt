@@ -9,5 +9,5 @@ mod served_relay;
 mod wall_report_clock;
 
 pub use crate::reported_relay::{Reports, UdpReported, serve_reporting};
-pub use crate::served_relay::{UdpRelayed, serve};
+pub use crate::served_relay::{RelaySettings, UdpRelayed, serve};
 pub use crate::wall_report_clock::WallReportClock;

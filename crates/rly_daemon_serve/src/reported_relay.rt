@@ -20,7 +20,7 @@ ghost use Rattle.rly_line.specs.EndViews.{names_of};
 ghost use Rattle.rly_line.specs.ResponderView.{IsAnsweredBy};
 ghost use Rattle.rly_daemon_reporter.specs.ReporterAtSeat.{HasWatchedAt};
 
-use crate::served_relay::{disk_of, outcome_of, ready_posts, report_start};
+use crate::served_relay::{RelaySettings, disk_of, outcome_of, ready_posts, report_start};
 use crate::wall_report_clock::WallReportClock;
 use rly_daemon_reporter::{Counters, ReportClock, Reported, TalliedLink, Tally, run_reported};
 use rly_disk::Disk;
@@ -36,7 +36,7 @@ use std::io::Write;
 use std::net::Net;
 use std::sync::{Arc, OnceLock, Wait};
 use std::thread::Threads;
-use std::time::Clock;
+use std::time::{Clock, Duration};
 
 /// The link of a neighbour whose counts are reported.
 type TalliedNeighbourLink<'a, H> = TalliedLink<NeighbourLink<&'a H>, &'a H>;
@@ -80,7 +80,7 @@ pub fn serve_reporting<
     journal: Journal<D>,
     plan: &Plan,
     keys: PlanKeys<'_>,
-    turns: u64,
+    settings: RelaySettings,
     size: u64,
     lines: Arc<ErrorLines, Global>,
     reports: Reports<'o>,
@@ -94,12 +94,12 @@ pub fn serve_reporting<
         → (result ≡ Err (fault.Refused refusal.BadGeometry cause.Plan, journal.disk))
         × (writer.new ≡ writer.old) × (errors.new ≡ errors.old) }
     // A relay without a limit of turns never ends well.
-    ensures ends { OnOk result (1 ≤ turns) }
+    ensures ends { OnOk result (1 ≤ settings.turns) }
     // Each worker of the plan did at its post and its seat what the plan says of it, as far as its link tells, and the
     // journal is what its flusher's rounds made of it. The reporter had a seat as well.
     ensures ran { IfOk result
-        (λ r. HasRunOver D.state link_below (length (workers_of plan.now) + 1) plan.now keys.entry journal turns
-        r.relayed) }
+        (λ r. HasRunOver D.state link_below (length (workers_of plan.now) + 1) plan.now keys.entry journal
+        settings.turns r.relayed) }
     // The journal isn't broken.
     ensures whole { IfOk result (λ r. r.relayed.finished.journal.broken ≡ false) }
     // The bytes written are a report at each due moment, of the answers to the reporter's seat.
@@ -107,12 +107,12 @@ pub fn serve_reporting<
         (λ r. HasReports plan.now r.relayed.finished.last.value.line (W.contents writer.old) (W.contents writer.new)
         r.watched.seat.value r.watched.end) }
 {
-    let (posts, is_told) = match tallied_start(
+    let (posts, mut bell, is_told) = match tallied_start(
         rt,
         &journal,
         plan,
         keys,
-        turns,
+        settings.turns,
         size,
         lines,
         &reports.tally,
@@ -126,13 +126,15 @@ pub fn serve_reporting<
         tally,
         stop_flag,
     } = reports;
-    let pace = WallReportClock::new(rt, stop_flag, seconds, turns);
+    let pace = WallReportClock::new(rt, stop_flag, seconds, settings.turns);
     run_tallied(
         rt,
         rt.alloc(),
         journal,
+        settings.gather,
         plan,
         posts,
+        &mut bell,
         pace,
         tally,
         writer,
@@ -144,7 +146,7 @@ pub fn serve_reporting<
 /// Runs a relay whose workers have these posts, with a reporter in parallel, and returns the results of both if
 /// they ended well.
 fn run_tallied<
-    R: Threads + Wait + Sync,
+    R: Threads + Wait + Clock + Sync,
     D: Disk + Drop,
     L: Link + Drop + Send,
     T: Turn + Drop + Send,
@@ -152,12 +154,15 @@ fn run_tallied<
     P: ReportClock + Drop + Send,
     C: Counters + Drop + Send,
     W: Write + Send,
+    B: Waker,
 >(
     rt: &R,
     alloc: Global,
     journal: Journal<D>,
+    gather: Duration,
     plan: &Plan,
     posts: Vec<Post<L, T, K>>,
+    bell: &mut B,
     pace: P,
     counters: C,
     writer: &mut W,
@@ -176,7 +181,7 @@ fn run_tallied<
         × IsAnsweredBy r.relayed.finished.last.value.line r.watched.seat.value) }
 {
     match run_reported(
-        rt, alloc, journal, plan, posts, pace, counters, writer, stop_flag,
+        rt, alloc, journal, gather, plan, posts, bell, pace, counters, writer, stop_flag,
     ) {
         Ok(reported) => {
             let is_complete = reported.relayed.complete && reported.had_thread;
@@ -200,7 +205,7 @@ fn tallied_start<'a, H: AllocGlobal + Net + Clock, D: Disk, E: Write>(
     lines: Arc<ErrorLines, Global>,
     tally: &Arc<Tally, Global>,
     errors: &mut E,
-) -> Result<(Vec<TalliedPost<'a, H>>, bool), ServeFault>
+) -> Result<(Vec<TalliedPost<'a, H>>, SenderWaker, bool), ServeFault>
     requires { IsSoundPlan plan.now }
     ensures room { OnOk result (FitsPlan plan.now journal.now.state.params) }
     ensures lacks { LacksRoom plan.now journal.now.state.params
@@ -208,10 +213,10 @@ fn tallied_start<'a, H: AllocGlobal + Net + Clock, D: Disk, E: Write>(
     ensures posts { IfOk result (λ started. map (duty_over link_below) started.0.items
         ≡ duties plan.now keys.entry (longest_message journal.now.state.params.payload) turns) }
 {
-    let posts = ready_posts(rt, journal, plan, keys, turns, lines)?;
+    let (posts, bell) = ready_posts(rt, journal, plan, keys, turns, lines)?;
     let is_told = report_start(journal, plan, size, &posts, errors).is_ok();
     match tallied_posts(rt, plan, posts, tally) {
-        Ok(posts) => Ok((posts, is_told)),
+        Ok(posts) => Ok((posts, bell, is_told)),
         Err(refused) => Err(refused.into()),
     }
 }

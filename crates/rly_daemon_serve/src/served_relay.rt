@@ -28,7 +28,16 @@ use std::io::Write;
 use std::net::Net;
 use std::sync::{Arc, Wait};
 use std::thread::Threads;
-use std::time::Clock;
+use std::time::{Clock, Duration};
+
+/// How a relay runs.
+#[derive(Clone, Copy)]
+pub struct RelaySettings {
+    /// The number of turns of each worker: 0 = without limit.
+    pub turns: u64,
+    /// The pause of a round, in which it gathers more calls.
+    pub gather: Duration,
+}
 
 /// The result of a relay over UDP.
 pub type UdpRelayed<'a, D, H> = Relayed<D, NeighbourLink<&'a H>, WallClock<&'a H>, SenderWaker>;
@@ -43,7 +52,7 @@ pub fn serve<'a, H: AllocGlobal + Net + Threads + Wait + Clock + Sync, D: Disk +
     journal: Journal<D>,
     plan: &Plan,
     keys: PlanKeys<'_>,
-    turns: u64,
+    settings: RelaySettings,
     size: u64,
     lines: Arc<ErrorLines, Global>,
     errors: &mut E,
@@ -54,34 +63,46 @@ pub fn serve<'a, H: AllocGlobal + Net + Threads + Wait + Clock + Sync, D: Disk +
     ensures lacks { LacksRoom plan.now journal.state.params
         → (result ≡ Err (fault.Refused refusal.BadGeometry cause.Plan, journal.disk)) × (errors.new ≡ errors.old) }
     // A relay without a limit of turns never ends well.
-    ensures ends { OnOk result (1 ≤ turns) }
+    ensures ends { OnOk result (1 ≤ settings.turns) }
     // Each worker of the plan did at its post and its seat what the plan says of it, as far as its link tells, and the
     // journal is what its flusher's rounds made of it.
-    ensures ran { IfOk result (λ relayed. HasRun D.state plan.now keys.entry journal turns relayed) }
+    ensures ran { IfOk result (λ relayed. HasRun D.state plan.now keys.entry journal settings.turns relayed) }
     // The journal isn't broken.
     ensures whole { IfOk result (λ relayed. relayed.finished.journal.broken ≡ false) }
 {
-    let posts = match ready_posts(rt, &journal, plan, keys, turns, lines) {
-        Ok(posts) => posts,
+    let (posts, mut bell) = match ready_posts(rt, &journal, plan, keys, settings.turns, lines) {
+        Ok(ready) => ready,
         Err(fault) => return Err((fault, journal.into_disk())),
     };
     let is_told = report_start(&journal, plan, size, &posts, errors).is_ok();
-    run_posts(rt, rt.alloc(), journal, plan, posts, is_told)
+    run_posts(
+        rt,
+        rt.alloc(),
+        journal,
+        settings.gather,
+        plan,
+        posts,
+        &mut bell,
+        is_told,
+    )
 }
 
 /// Runs a relay whose workers have these posts, and returns its result if it ended well.
 fn run_posts<
-    R: Threads + Wait + Sync,
+    R: Threads + Wait + Clock + Sync,
     D: Disk + Drop,
     L: Link + Drop + Send,
     T: Turn + Drop + Send,
     K: Waker + Drop + Send,
+    B: Waker,
 >(
     rt: &R,
     alloc: Global,
     journal: Journal<D>,
+    gather: Duration,
     plan: &Plan,
     posts: Vec<Post<L, T, K>>,
+    bell: &mut B,
     is_told: bool,
 ) -> Result<Relayed<D, L, T, K>, (ServeFault, D)>
     requires count { (1 ≤ length posts.items) × (length posts.items ≤ 256) }
@@ -91,7 +112,7 @@ fn run_posts<
     ensures complete { IfOk result (λ relayed. list_all has_run_out relayed.ended.items ≡ true) }
     ensures whole { IfOk result (λ relayed. relayed.finished.journal.broken ≡ false) }
 {
-    match run_relay(rt, alloc, journal, plan, posts) {
+    match run_relay(rt, alloc, journal, gather, plan, posts, bell) {
         Ok(relayed) => match outcome_of(relayed.finished.broken, relayed.complete, is_told) {
             Ok(()) => Ok(relayed),
             Err(fault) => Err((fault, disk_of(relayed))),
@@ -116,13 +137,13 @@ pub(crate) fn ready_posts<'a, H: AllocGlobal + Net + Clock, D: Disk>(
     keys: PlanKeys<'_>,
     turns: u64,
     lines: Arc<ErrorLines, Global>,
-) -> Result<Vec<UdpPost<'a, H>>, ServeFault>
+) -> Result<(Vec<UdpPost<'a, H>>, SenderWaker), ServeFault>
     requires { IsSoundPlan plan.now }
     ensures room { OnOk result (FitsPlan plan.now journal.now.state.params) }
     ensures lacks { LacksRoom plan.now journal.now.state.params
         → result ≡ Err (fault.Refused refusal.BadGeometry cause.Plan) }
     ensures whole { OnOk result (journal.now.broken ≡ false) }
-    ensures posts { IfOk result (λ posts. map duty_at posts.items
+    ensures posts { IfOk result (λ posts. map duty_at posts.0.items
         ≡ duties plan.now keys.entry (longest_message journal.now.state.params.payload) turns) }
 {
     let longest = longest_served(journal, plan)?;

@@ -8,8 +8,11 @@ use std::sync::{OnceLock, Wait};
 use std::thread;
 use std::time::{Clock, Duration};
 
-/// The length of one sleep, in milliseconds: the maximum delay until it notices that the relay has ended.
-const NAP: u64 = 10;
+/// The length of one sleep if the sleeps are limited, and the most otherwise, in microseconds: the maximum delay until it
+/// notices that the relay has ended.
+const NAP: u64 = 10_000;
+
+const LONGEST_NAP: u64 = 500_000;
 
 /// Schedules reports by the monotonic clock: one at once, and one every `seconds` seconds. It ends once the stop flag of
 /// the relay is set, or after a number of sleeps.
@@ -61,23 +64,26 @@ impl<'a, C: Clock + Drop> WallReportClock<'a, C> {
                 self.due = Some(next_due(due, passed, self.every));
                 return Some(moment_of(self.clock.since_1970().ok()));
             }
-            if !self.nap() {
+            if !self.nap(due - passed) {
                 return None;
             }
         }
         unreachable!()
     }
 
-    /// Sleeps once, if a sleep is left.
-    fn nap(&mut self) -> bool
+    /// Sleeps once, if a sleep is left, at most until the next report is due.
+    fn nap(&mut self, left: u64) -> bool
         ensures { self.new ≡ record self.old { naps = self.new.naps } }
     {
-        match self.naps {
+        let nap = match self.naps {
             Some(0) => return false,
-            Some(left) => self.naps = Some(left - 1),
-            None => {}
-        }
-        thread::sleep(&self.clock, Duration::from_millis(NAP));
+            Some(naps) => {
+                self.naps = Some(naps - 1);
+                NAP
+            }
+            None => left.min(LONGEST_NAP),
+        };
+        thread::sleep(&self.clock, Duration::from_micros(nap));
         true
     }
 }

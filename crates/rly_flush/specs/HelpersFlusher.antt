@@ -1,8 +1,9 @@
 -- Helpers of private functions and invariants: the state of a flusher.
 use Rattle.std.specs.Prelude.{◌≡◌, ◌+◌, ◌<◌, ◌≤◌, List, [], ◌++◌, map, length, vec_capacity}
-use Rattle.std.specs.Prelude.{Option, IfSome, true, false}
+use Rattle.std.specs.Prelude.{Option, IfSome, None, true, false}
 use Rattle.std.specs.List.{flat_map, zip}
 use Rattle.std.specs.declared.snapshot.Snapshot.{Snapshot}
+use Rattle.rly_core.specs.Bounds.{IsIn}
 use Rattle.rly_disk.specs.DiskModel.{DiskState, Later, Settled}
 use Rattle.rly_machine.specs.declared.call.Answer.{Answer}
 use Rattle.rly_machine.specs.declared.call.Call.{Call}
@@ -45,6 +46,21 @@ pub record AreCollected (old new : ResponderView) (kept left : Option BatchView)
   pub line : new ≡ record old { taken = old.taken ++ came }
   pub in_turn : calls_put kept ++ came ≡ calls ++ calls_put left
   pub full : IfSome left (λ batch. 64 < length calls + length batch.asks)
+
+-- the calls of a round stay those of the batches taken so far: by each way on which they were collected, more were
+-- taken, and at most the last of them didn't fit
+abbrev pub StaysCollected : ResponderView → ResponderView → Option BatchView → List Call → List Call → Type 0
+StaysCollected mid new left before calls = (old : ResponderView) (kept : Option BatchView)
+    → AreCollected old mid kept None before → AreCollected old new kept left calls
+
+-- the lists of a round that has 1 to 64 calls so far, and no answers yet
+pub record IsGathering (lists : Lists) : Type 0 where
+  pub said : calls_said lists.said.items ≡ lists.calls.items
+  pub wanted : lists.wanted.items ≡ answers_said lists.said.items
+  pub count : IsIn 1 64 (length lists.calls.items)
+  pub batches : length lists.said.items ≤ length lists.calls.items
+  pub answers : lists.answers.items ≡ []
+  pub room : HasRoundRoom lists
 
 -- the properties of a round of the journal
 pub record IsRounded {D : Type 0} (state : D → DiskState) (old new : JournalState D) (calls : List Call)

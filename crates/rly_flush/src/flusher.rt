@@ -20,6 +20,7 @@ use std::alloc::Global;
 use std::marker::Model;
 use std::snapshot::Snapshot;
 use std::sync::Wait;
+use std::time::{Clock, Duration};
 
 /// The one thread that owns the journal, at the receiving end of all queues. The model: the journal at first and
 /// now, the batch kept for the next round, and the calls with their answers.
@@ -31,6 +32,8 @@ pub struct Flusher<D: Disk> {
     line: Responder<OwnedJournal<D>>,
     kept: Option<Batch>,
     lists: Lists,
+    /// The pause of a round, in which it gathers more calls.
+    gather: Duration,
 }
 
 impl<D: Disk> Model for Flusher<D> {
@@ -87,14 +90,24 @@ impl<D: Disk> Flusher<D> {
             line,
             kept: None,
             lists,
+            gather: Duration::ZERO,
         })
+    }
+
+    /// The same flusher, whose rounds pause for this long to gather more calls.
+    pub fn with_gather(self, gather: Duration) -> Flusher<D>
+        // What a round does with the calls that it took doesn't depend on the pause.
+        ensures { result ≡ self }
+    {
+        Flusher { gather, ..self }
     }
 
     /// Takes the batch that was kept, or else waits for one, takes more while there are any and they hold at most
     /// 64 calls together, makes one round of the journal for them, and answers each batch. A batch that does not
-    /// fit is kept for the next round. On a broken journal, takes only one. Returns false if no batch and no seat
-    /// is left.
-    pub fn round<R: Wait>(&mut self, rt: &R) -> bool
+    /// fit is kept for the next round. If the round has a command and room for more calls, it pauses first, if the
+    /// flusher has a pause, and takes what came meanwhile. On a broken journal, takes only one batch, without a
+    /// pause. Returns false if no batch and no seat is left.
+    pub fn round<R: Wait + Clock>(&mut self, rt: &R) -> bool
         // Returns true iff it made one round of the journal, for the batch that was kept and those it received.
         ensures took { MatchBool result (IsOneRound D.state self.old self.new) (self.new ≡ over_now self.old) }
         ensures none_kept { result ≡ false → self.old.kept ≡ None }
@@ -112,7 +125,14 @@ impl<D: Disk> Flusher<D> {
         ensures later { Later (D.state self.old.journal.disk) (D.state self.new.journal.disk) }
     {
         let alone = self.owned.journal.is_broken();
-        if !collect(rt, &mut self.line, &mut self.kept, &mut self.lists, alone) {
+        if !collect(
+            rt,
+            &mut self.line,
+            &mut self.kept,
+            &mut self.lists,
+            alone,
+            self.gather,
+        ) {
             return false;
         }
         commit(
@@ -134,7 +154,7 @@ impl<D: Disk> Flusher<D> {
     /// Makes rounds until each seat left or was dropped, or until the journal is broken and each received batch is
     /// answered, and hands the journal back. A batch left in the queue returns `Lost` to its seat, and each later
     /// call `Closed`.
-    pub fn serve<R: Wait>(self, rt: &R) -> Finished<D>
+    pub fn serve<R: Wait + Clock>(self, rt: &R) -> Finished<D>
         ensures broken { result.broken ≡ result.journal.broken }
         ensures journal { result.last.value.journal ≡ result.journal }
         ensures ends { IsServed D.state self result.last.value }
@@ -196,6 +216,7 @@ impl<D: Disk> Flusher<D> {
             line,
             kept: _kept,
             lists: _lists,
+            gather: _gather,
         } = self;
         let OwnedJournal { journal } = owned;
         Finished {

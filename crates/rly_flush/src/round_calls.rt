@@ -9,15 +9,18 @@ ghost use Rattle.rly_machine.specs.History.{LegalBy, harm_after, state_after, wi
 ghost use Rattle.rly_line.specs.Batches.{calls_in_batch, calls_put, no_answers};
 ghost use Rattle.rly_line.specs.EndViews.{names_of};
 ghost use Rattle.rly_line.specs.ResponderView.{AreLeft, IsOneResponder};
-ghost use Rattle.rly_flush.specs.HelpersFlusher.{AreCollected, HasRoundRoom, IsRoundReady, answers_said, calls_said};
+ghost use Rattle.rly_flush.specs.HelpersFlusher.{AreCollected, HasRoundRoom, IsGathering, IsRoundReady};
+ghost use Rattle.rly_flush.specs.HelpersFlusher.{StaysCollected, answers_said, calls_said};
 
 use rly_core::limits;
 use rly_line::{Answers, Batch, HasState, Responder};
-use rly_machine::{Answer, Call};
+use rly_machine::{Answer, Ask, Call};
 use std::alloc::{AllocError, Global};
 use std::marker::Model;
 use std::snapshot::Snapshot;
 use std::sync::Wait;
+use std::thread;
+use std::time::{Clock, Duration};
 
 /// Maximum number of calls in a round.
 const MAX_CALLS: usize = limits::MAX_ROUND as usize;
@@ -71,6 +74,15 @@ impl Lists {
         let wanted = batch.into_calls(&mut self.calls);
         self.wanted.push_reserved(wanted);
     }
+
+    /// Whether more calls would share the syncs of this round: it has a command, and room for another call.
+    fn can_share(&self) -> bool {
+        self.calls.len() < MAX_CALLS
+            && self
+                .calls
+                .iter()
+                .any(|call| matches!(&call.ask, Ask::Command(_)))
+    }
 }
 
 /// The batch that was kept, or else the next of the queue, after a wait. `None`: no batch and no seat is left.
@@ -91,15 +103,43 @@ fn first_batch<T: HasState, R: Wait>(
     }
 }
 
+/// Takes more batches while there are any and they hold at most 64 calls together. Keeps the one that doesn't fit.
+fn take_more<T: HasState, R: Wait>(
+    rt: &R,
+    line: &mut Responder<T>,
+    kept: &mut Option<Batch>,
+    lists: &mut Lists,
+)
+    requires holds { IsOneResponder line.old }
+    requires none_kept { kept.old ≡ None }
+    requires gathering { IsGathering lists.old }
+    ensures collected { StaysCollected line.old line.new kept.new lists.old.calls.items lists.new.calls.items }
+    ensures gathering { IsGathering lists.new }
+    ensures holds { IsOneResponder line.new }
+{
+    for _more in lists.calls.len()..MAX_CALLS {
+        let Some(batch) = line.more(rt) else {
+            return;
+        };
+        if lists.calls.len() + batch.len() > MAX_CALLS {
+            *kept = Some(batch);
+            return;
+        }
+        lists.add(batch);
+    }
+}
+
 /// Collects the batches of a round: the one that was kept or else the next of the queue, after a wait, and more
 /// while there are any and they hold at most 64 calls together. Keeps the one that doesn't fit. Returns false if no
-/// batch and no seat is left. A round of one batch alone takes no other.
-pub(crate) fn collect<T: HasState, R: Wait>(
+/// batch and no seat is left. If more calls would share its syncs, it pauses for `gather`, and takes those that came
+/// meanwhile. A round of one batch alone takes no other, and doesn't pause.
+pub(crate) fn collect<T: HasState, R: Wait + Clock>(
     rt: &R,
     line: &mut Responder<T>,
     kept: &mut Option<Batch>,
     lists: &mut Lists,
     alone: bool,
+    gather: Duration,
 ) -> bool
     requires holds { IsOneResponder line.old }
     requires ready { IsRoundReady lists.old }
@@ -123,15 +163,10 @@ pub(crate) fn collect<T: HasState, R: Wait>(
     if alone {
         return true;
     }
-    for _count in 1..MAX_CALLS {
-        let Some(batch) = line.more(rt) else {
-            break;
-        };
-        if lists.calls.len() + batch.len() > MAX_CALLS {
-            *kept = Some(batch);
-            break;
-        }
-        lists.add(batch);
+    take_more(rt, line, kept, lists);
+    if kept.is_none() && !gather.is_zero() && lists.can_share() {
+        thread::sleep(rt, gather);
+        take_more(rt, line, kept, lists);
     }
     true
 }

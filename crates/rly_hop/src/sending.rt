@@ -1,4 +1,4 @@
-ghost use Rattle.std.specs.Prelude.{◌≡◌, ◌+◌, ◌-◌, is_some, not, true, List, ℕ};
+ghost use Rattle.std.specs.Prelude.{◌≡◌, ◌+◌, ◌-◌, ◌==◌, is_some, not, true, List, ℕ};
 ghost use Rattle.std.specs.Option.{option_map};
 ghost use Rattle.rly_hop.specs.Payloads.{out_action_bytes, out_event_bytes};
 ghost use Rattle.rly_hop.specs.Sending.{after_custody, after_release, is_unsure, repeat_action, reports_flight, sender};
@@ -124,6 +124,13 @@ impl Sending {
         self.next
     }
 
+    /// Whether nothing is in flight.
+    pub fn is_idle(&self) -> bool
+        ensures { result ≡ (self.now.first == self.now.next) }
+    {
+        self.first == self.next
+    }
+
     /// How many more datagrams may enter the flight.
     pub fn room(&self) -> u64
         ensures { result ≡ self.now.window - (self.now.next - self.now.first) }
@@ -139,15 +146,8 @@ impl Sending {
         self.window.saturating_sub(left)
     }
 
-    /// Whether the core can only receive: a turn would request nothing, even with the contact open.
-    pub fn can_only_hear(&self) -> bool
-        ensures { result ≡ not (is_some (turn_action self.now true)) }
-    {
-        self.turn_action(true).is_none()
-    }
-
     /// The call that a turn requests, if any.
-    fn turn_action<'a>(&self, is_open: bool) -> Option<OutAction<&'a [u8]>>
+    pub fn turn_action<'a>(&self, is_open: bool) -> Option<OutAction<&'a [u8]>>
         ensures { option_map out_action_bytes result ≡ turn_action self.now is_open }
     {
         if !self.ready {

@@ -1,2 +1,10 @@
 pub mod RateLaws
 pub mod Numbers
+pub mod Soonest
+pub mod Gains
+pub mod NextMoments
+pub mod PacerMoments
+pub mod NextWork
+pub mod LaterMoments
+pub mod RateMoments
+pub mod SkippedTurns

@@ -27,7 +27,7 @@ heard-more b told at trip covered place =
     let next : place + 1 ≡ suc place = omega arith in
     ap (after_heard b told at trip covered) next ∙ heard-suc b told at trip covered place
 
-range-more : (a n : ℕ) → range_with_len a (suc n) ≡ range_with_len a n ++ (a + n) ∷ []
+pub range-more : (a n : ℕ) → range_with_len a (suc n) ≡ range_with_len a n ++ (a + n) ∷ []
 range-more a zero = let same : a ≡ a + 0 = omega arith in ap (λ x. x ∷ []) same
 range-more a (suc n) =
     let last : a + 1 + n ≡ a + suc n = omega arith in

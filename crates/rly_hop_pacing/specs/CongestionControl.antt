@@ -187,11 +187,13 @@ way_count p at = length (filter (is_on_way p at) (sent_numbers p.flight))
 abbrev pub repeats : ControlView → (most at : ℕ) → List ℕ
 repeats p most at = take most (filter (is_missing p at) (sent_numbers p.flight))
 
--- how many numbers may be sent to a hop whose rate isn't known: the one that a Timeout asks for in any case
+-- how many more numbers may be on the way to a hop whose rate isn't known: the one that a Timeout asks for in any case
+abbrev pub window_room : ControlView → ℕ → ℕ
+window_room p at = max (p.congestion.allowed - way_count p at) (if p.is_due then 1 else 0)
+
+-- how many may be sent now
 abbrev pub unrated_room : ControlView → ℕ → ℕ
-unrated_room p at =
-    min (max (p.congestion.allowed - way_count p at) (if p.is_due then 1 else 0))
-    (pacer_room p.pacer p.congestion.allowed (shortest p.congestion) at)
+unrated_room p at = min (window_room p at) (pacer_room p.pacer p.congestion.allowed (shortest p.congestion) at)
 
 -- how many numbers may be sent now, those that are sent again among them: none while the contact is closed
 abbrev pub open_room : ControlView → ℕ → ℕ
@@ -202,10 +204,17 @@ open_room p at =
     else (if p.congestion.is_rated then p.congestion.window else unrated_room p at))
     else 0
 
--- the wait has passed since custody last covered more, and since the first number in flight was last sent
+-- whether a Timeout will come: a number is in flight, and none asks for it already
+abbrev pub may_time_out : ControlView → Bool
+may_time_out p = p.is_open && not p.is_due && nat_lt p.flight.covered p.flight.reached
+
+-- since when it is waited for: custody last covered more, and the first number in flight was last sent
+abbrev pub waiting_since : ControlView → ℕ
+waiting_since p = max (last_sent_at p.board (p.flight.covered + 1)) p.covered_at
+
+-- the wait has passed since then
 abbrev pub is_timeout : ControlView → ℕ → Bool
-is_timeout p at = p.is_open && not p.is_due && nat_lt p.flight.covered p.flight.reached
-    && is_past p.timer (max (last_sent_at p.board (p.flight.covered + 1)) p.covered_at) at
+is_timeout p at = may_time_out p && is_past p.timer (waiting_since p) at
 
 -- The number after all that the station gets one by one: a Timeout after news lets one new number out, and a further one
 -- lets out four.
@@ -250,11 +259,26 @@ is_spare p at number = not (is_heard p.board number) && is_repeated_before p.boa
 abbrev pub spare_of : ControlView → ℕ → Option ℕ
 spare_of p at = first_of (filter (is_spare p at) (sent_numbers p.flight))
 
+-- whether there may be a tail loss probe: the number that was sent last, once, isn't heard
+abbrev pub may_probe : ControlView → Bool
+may_probe p = p.is_open && nat_lt p.flight.covered p.board.last && nat_le p.board.last p.flight.reached
+    && not (is_heard p.board p.board.last) && not (last_sent p.board p.board.last).again
+
+-- how long nothing is heard before it
+abbrev pub probe_wait : ControlView → ℕ
+probe_wait p = max (2 * round_trip p.timer) p.timer.resend
+
+-- since when: the number was sent, and something was last heard
+abbrev pub quiet_since : ControlView → (news_at : ℕ) → ℕ
+quiet_since p news_at = max (last_sent_at p.board p.board.last) news_at
+
+abbrev pub quiet_if_probe : ControlView → Option ℕ → Option ℕ
+quiet_if_probe p None = None
+quiet_if_probe p (Some news_at) = if may_probe p then Some (quiet_since p news_at) else None
+
 -- the tail loss probe: the number that was sent last, once, if nothing was heard for two round trips
 abbrev pub is_probe : ControlView → (at news_at : ℕ) → Bool
-is_probe p at news_at = p.is_open && nat_lt p.flight.covered p.board.last && nat_le p.board.last p.flight.reached
-    && not (is_heard p.board p.board.last) && not (last_sent p.board p.board.last).again
-    && nat_le (max (2 * round_trip p.timer) p.timer.resend) (at - max (last_sent_at p.board p.board.last) news_at)
+is_probe p at news_at = may_probe p && nat_le (probe_wait p) (at - quiet_since p news_at)
 
 abbrev pub probe_since : ControlView → ℕ → Option ℕ → Option ℕ
 probe_since p at None = None

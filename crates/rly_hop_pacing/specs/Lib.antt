@@ -1,3 +1,4 @@
+pub mod Moments
 pub mod RoundTrips
 pub mod Timers
 pub mod Flights
@@ -5,4 +6,5 @@ pub mod Scoreboards
 pub mod Windows
 pub mod Pacers
 pub mod CongestionControl
+pub mod NextMoments
 pub mod Rates

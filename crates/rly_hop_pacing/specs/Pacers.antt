@@ -1,5 +1,7 @@
 -- The pacer of a hop whose rate isn't known (docs/PROTOCOL.md, "The pace of a hop").
-use Rattle.std.specs.Prelude.{ℕ, ◌+◌, ◌-◌, ◌*◌, ◌/◌, ◌^◌, ◌==◌, if◌then◌else◌, max, min}
+use Rattle.std.specs.Prelude.{ℕ, ◌+◌, ◌-◌, ◌*◌, ◌/◌, ◌^◌, ◌==◌, ◌||◌, if◌then◌else◌, max, min, Option, None}
+use Rattle.std.specs.Int.{div_ceil}
+use Rattle.rly_hop_pacing.specs.Moments.{moment_after}
 use Rattle.rly_hop_pacing.specs.declared.pacer.Pacer.{Pacer}
 
 -- initially it is empty
@@ -19,3 +21,9 @@ pacer_room p allowed round at =
 -- a number goes out
 abbrev pub on_paced : Pacer → (allowed round at : ℕ) → Pacer
 on_paced p allowed round at = record { credit = credit_at p allowed round at - round; mark = max p.mark at }
+
+-- the moment from which one may go out, if none may yet: never, if none may be on the way
+abbrev pub pacer_moment : Pacer → (allowed round at : ℕ) → Option ℕ
+pacer_moment p allowed round at =
+    if (allowed == 0) || (round == 2 ^ 32 - 1) then None
+    else moment_after p.mark (div_ceil (max round 1 - p.credit) allowed) at

@@ -1,5 +1,6 @@
 -- The rate of a hop: a token bucket (RFC 2697, section 3, has one bucket like it; the burst is this project's).
-use Rattle.std.specs.Prelude.{ℕ, ◌+◌, ◌-◌, ◌*◌, ◌/◌, nat_le, Bool, if◌then◌else◌, max, min, List, [], ◌∷◌}
+use Rattle.std.specs.Prelude.{ℕ, ◌+◌, ◌-◌, ◌*◌, ◌/◌, ◌^◌, ◌==◌, nat_le, nat_lt, Bool, if◌then◌else◌, max, min, List, [], ◌∷◌}
+use Rattle.std.specs.Int.{div_ceil}
 use Rattle.rly_hop_pacing.specs.declared.rate.Bucket.{Bucket}
 
 -- The cost of a message, in millionths of a byte: its bytes, and 28 for the headers of IP and UDP. At a rate of R
@@ -31,6 +32,15 @@ may_take b bytes at = nat_le (cost bytes) (refill_at b at).credit
 -- how many of the longest messages may be sent at a moment
 abbrev pub room_at : Bucket → ℕ → ℕ
 room_at b at = (refill_at b at).credit / cost b.longest
+
+-- How long it takes, from the mark on, until one of the longest messages may be sent, if none may: at a rate of 0 longer
+-- than there are moments.
+abbrev pub refill_time : Bucket → ℕ
+refill_time b = if b.rate == 0 then 2 ^ 64 - 1 else div_ceil (cost b.longest - b.credit) b.rate
+
+-- the first moment, this one or a later one, at which one may be sent, or the last moment
+abbrev pub next_room : Bucket → ℕ → ℕ
+next_room b at = if nat_lt 0 (room_at b at) then at else min (b.mark + refill_time b) (2 ^ 64 - 1)
 
 -- the bucket after a message was offered at a moment
 abbrev pub on_take : Bucket → ℕ → ℕ → Bucket

@@ -1,10 +1,11 @@
 -- The scoreboard of a hop: when each number in flight was last sent, and which were heard (RFC 6675; docs/PROTOCOL.md,
 -- "The pace of a hop"). Moments are microseconds.
 use Rattle.std.specs.Prelude.{ℕ, zero, suc, ◌+◌, ◌-◌, ◌/◌, ◌%◌, ◌^◌, ◌==◌, max, min, nat_le, nat_lt, Bool, true, false, not}
-use Rattle.std.specs.Prelude.{◌&&◌, ◌||◌, if◌then◌else◌, replicate, slice_index_or, slice_set}
+use Rattle.std.specs.Prelude.{◌&&◌, ◌||◌, if◌then◌else◌, replicate, slice_index_or, slice_set, Option, None}
 use Rattle.rly_hop.specs.HeardBits.{marks}
 use Rattle.rly_hop_pacing.specs.declared.scoreboard.Scoreboard.{Scoreboard}
 use Rattle.rly_hop_pacing.specs.declared.scoreboard.Sent.{Sent}
+use Rattle.rly_hop_pacing.specs.Moments.{moment_after}
 
 -- a slot without a number
 abbrev pub not_sent : Sent
@@ -53,6 +54,12 @@ abbrev pub is_passed : Scoreboard → (number at slack : ℕ) → Bool
 is_passed b number at slack =
     nat_lt (last_sent b number).order b.newest && nat_le (min (b.trip + slack) (2 ^ 64 - 1)) (at - (last_sent b number).at)
 
+-- the moment from which this holds, if it doesn't yet and one that was sent later was heard
+abbrev pub passed_after : Scoreboard → (number at slack : ℕ) → Option ℕ
+passed_after b number at slack =
+    if nat_lt (last_sent b number).order b.newest
+    then moment_after (last_sent b number).at (min (b.trip + slack) (2 ^ 64 - 1)) at else None
+
 -- a number was last sent after the last Timeout
 abbrev pub is_after_timeout : Scoreboard → ℕ → Bool
 is_after_timeout b number = nat_lt b.lost (last_sent b number).order
@@ -64,6 +71,11 @@ is_unanswered b number = nat_le (last_sent b number).order b.silent
 -- a number was sent more than once, the last time at least this long ago
 abbrev pub is_repeated_before : Scoreboard → (number at wait : ℕ) → Bool
 is_repeated_before b number at wait = (last_sent b number).again && nat_le wait (at - (last_sent b number).at)
+
+-- the moment from which this holds, if it doesn't yet and the number was sent more than once
+abbrev pub repeated_after : Scoreboard → (number at wait : ℕ) → Option ℕ
+repeated_after b number at wait =
+    if (last_sent b number).again then moment_after (last_sent b number).at wait at else None
 
 -- A number is sent. What was heard of it stays heard.
 abbrev pub sending_after : Sent → (number at order : ℕ) → Sent

@@ -2,6 +2,7 @@
 use Rattle.std.specs.Prelude.{ℕ, ◌-◌, ◌*◌, ◌^◌, max, min, nat_le, Bool, Option, None, Some}
 use Rattle.rly_hop_pacing.specs.declared.round_trip.RoundTrip.{RoundTrip}
 use Rattle.rly_hop_pacing.specs.declared.timer.Timer.{Timer}
+use Rattle.rly_hop_pacing.specs.Moments.{moment_after}
 use Rattle.rly_hop_pacing.specs.RoundTrips.{doubled_wait, plain_wait, after_sample}
 
 -- initially nothing is measured
@@ -32,6 +33,10 @@ timer_limited t passed = record t { wait = max (plain_wait t.resend t.trip) (min
 -- whether the wait has passed since a moment
 abbrev pub is_past : Timer → (since at : ℕ) → Bool
 is_past t since at = nat_le t.wait (at - since)
+
+-- the moment at which it will have passed, if it hasn't
+abbrev pub timer_moment : Timer → (since at : ℕ) → Option ℕ
+timer_moment t since at = moment_after since t.wait at
 
 -- RFC 6298, (5.5): a Timeout doubles the wait
 abbrev pub timer_on_timeout : Timer → Timer

@@ -5,7 +5,10 @@ ghost use Rattle.rly_hop_pacing.specs.CongestionControl.{first_option, is_closed
 ghost use Rattle.rly_hop_pacing.specs.CongestionControl.{is_opening, is_stopped, is_timeout, is_wide, on_contact, on_covered};
 ghost use Rattle.rly_hop_pacing.specs.CongestionControl.{on_heard, on_report, on_sent, on_time, on_window, open_room};
 ghost use Rattle.rly_hop_pacing.specs.CongestionControl.{probe_number, repeats, slack, spare_number, spare_of, unrated_room};
-ghost use Rattle.rly_hop_pacing.specs.CongestionControl.{unsent_count, way_count, with_round_over};
+ghost use Rattle.rly_hop_pacing.specs.CongestionControl.{may_time_out, probe_wait, quiet_if_probe, unsent_count};
+ghost use Rattle.rly_hop_pacing.specs.CongestionControl.{waiting_since, way_count, window_room, with_round_over};
+
+mod next_moment;
 
 use crate::congestion::{Congestion, Round};
 use crate::flight::Flight;
@@ -95,6 +98,13 @@ impl CongestionControl {
             recover: 0,
             is_reporting: false,
         }
+    }
+
+    /// Whether a contact was open when it was told last.
+    pub fn is_open(&self) -> bool
+        ensures { result ≡ self.now.is_open }
+    {
+        self.is_open
     }
 
     /// Reports whether a contact is open; called first in each turn. Returns true if one has just opened: the caller
@@ -235,16 +245,25 @@ impl CongestionControl {
     fn is_timeout(&self, at: u64) -> bool
         ensures { result ≡ is_timeout self.now at }
     {
+        match self.waiting_since() {
+            None => false,
+            Some(since) => self.timer.is_past(since, at),
+        }
+    }
+
+    /// Since when a Timeout is waited for, if one will come.
+    fn waiting_since(&self) -> Option<u64>
+        ensures { result ≡ (if may_time_out self.now then Some (waiting_since self.now) else None) }
+    {
         let Flight {
             covered,
             reached,
             ..
         } = self.flight;
         if !self.is_open || self.is_due || covered >= reached {
-            return false;
+            return None;
         }
-        let since = self.board.last_sent_at(covered + 1).max(self.covered_at);
-        self.timer.is_past(since, at)
+        Some(self.board.last_sent_at(covered + 1).max(self.covered_at))
     }
 
     /// How many numbers may be sent now, those that are sent again among them: 0 while the contact is closed. With a
@@ -264,16 +283,23 @@ impl CongestionControl {
         }
     }
 
-    /// How many numbers may be sent to a hop whose rate isn't known. The number that a Timeout sends again is one of
-    /// them, however many are on the way.
+    /// How many numbers may be sent to a hop whose rate isn't known.
     fn unrated_room(&self, at: u64) -> u64
         ensures { result ≡ unrated_room self.now at }
     {
-        let left = u64::from(self.congestion.allowed).saturating_sub(self.way_count(at));
         let paced = self
             .pacer
             .room(self.congestion.allowed, self.congestion.shortest(), at);
-        left.max(u64::from(self.is_due)).min(paced)
+        self.window_room(at).min(paced)
+    }
+
+    /// How many more numbers may be on the way to such a hop. The number that a Timeout sends again is one of them,
+    /// however many are on the way.
+    fn window_room(&self, at: u64) -> u64
+        ensures { result ≡ window_room self.now at }
+    {
+        let left = u64::from(self.congestion.allowed).saturating_sub(self.way_count(at));
+        left.max(u64::from(self.is_due))
     }
 
     /// How many numbers in flight were sent since the core was last set back.
@@ -456,21 +482,37 @@ impl CongestionControl {
     fn probe(&self, at: u64) -> Option<u64>
         ensures { result ≡ probe_number self.now at }
     {
+        let since = self.quiet_since()?;
+        if self.probe_wait() <= at.saturating_sub(since) {
+            Some(self.board.last)
+        } else {
+            None
+        }
+    }
+
+    /// Since when nothing was heard, if there may be a probe.
+    fn quiet_since(&self) -> Option<u64>
+        ensures { result ≡ quiet_if_probe self.now self.now.news_at }
+    {
         let news_at = self.news_at?;
         let number = self.board.last;
-        let since = self.board.last_sent_at(number).max(news_at);
-        let wait = (2 * u64::from(self.timer.round_trip())).max(self.timer.resend);
         if self.is_open
             && self.flight.covered < number
             && number <= self.flight.reached
             && !self.board.is_heard(number)
             && !self.board.was_repeated(number)
-            && wait <= at.saturating_sub(since)
         {
-            Some(number)
+            Some(self.board.last_sent_at(number).max(news_at))
         } else {
             None
         }
+    }
+
+    /// How long nothing is heard before a probe, in microseconds.
+    fn probe_wait(&self) -> u64
+        ensures { result ≡ probe_wait self.now }
+    {
+        (2 * u64::from(self.timer.round_trip())).max(self.timer.resend)
     }
 
     /// How many of the numbers in flight, those below `next`, weren't sent since the core last started again. They are

@@ -10,6 +10,7 @@ mod congestion;
 mod congestion_control;
 mod flight;
 mod laws;
+mod moment;
 mod pacer;
 mod rate;
 mod round_trip;
@@ -17,6 +18,10 @@ mod scoreboard;
 mod timer;
 
 pub use crate::congestion_control::{CongestionControl, Numbers};
-pub use crate::laws::law_opening_ends_no_round;
-pub use crate::rate::{Rate, law_rate_is_kept};
+pub use crate::laws::{
+    law_next_moment_is_later, law_next_timeout, law_nothing_to_do_before_the_next_moment,
+    law_opening_ends_no_round, law_pacer_has_room_at_its_moment, law_turn_without_a_timeout,
+    law_turns_before_the_next_moment_change_nothing,
+};
+pub use crate::rate::{Rate, law_next_moment_is_the_first_with_room, law_rate_is_kept};
 pub use crate::round_trip::RoundTrip;

@@ -1,5 +1,7 @@
 ghost use Rattle.std.specs.Prelude.{◌≡◌, ◌-◌};
-ghost use Rattle.rly_hop_pacing.specs.Pacers.{credit_at, first_pacer, on_paced, pacer_room};
+ghost use Rattle.rly_hop_pacing.specs.Pacers.{credit_at, first_pacer, on_paced, pacer_moment, pacer_room};
+
+use crate::moment::moment_after;
 
 /// How many numbers may go out before the first round is over: as many as may be on the way.
 const NO_LIMIT: u64 = 64;
@@ -30,6 +32,17 @@ impl Pacer {
             return NO_LIMIT;
         }
         self.credit_at(allowed, round, at) / u64::from(round.max(1))
+    }
+
+    /// The moment from which one may go out, if none may yet; `None` if none may be on the way.
+    pub(crate) fn moment(&self, allowed: u32, round: u32, at: u64) -> Option<u64>
+        ensures { result ≡ pacer_moment self.now allowed round at }
+    {
+        if allowed == 0 || round == u32::MAX {
+            return None;
+        }
+        let lacking = u64::from(round.max(1)).saturating_sub(self.credit);
+        moment_after(self.mark, lacking.div_ceil(u64::from(allowed)), at)
     }
 
     /// A number goes out.

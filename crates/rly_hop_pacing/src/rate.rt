@@ -1,6 +1,6 @@
-ghost use Rattle.std.specs.Prelude.{◌≡◌, ℕ, ◌+◌, ◌-◌, ◌*◌, ◌≤◌, List, ◌∷◌, max};
+ghost use Rattle.std.specs.Prelude.{◌≡◌, ℕ, ◌+◌, ◌-◌, ◌*◌, ◌^◌, ◌<◌, ◌≤◌, List, ◌∷◌, max};
 ghost use Rattle.rly_hop_pacing.specs.Rates.{OutgoingMessage, burst, cost, first_bucket, latest, may_take, on_take};
-ghost use Rattle.rly_hop_pacing.specs.Rates.{refill_at, room_at, bytes_spent};
+ghost use Rattle.rly_hop_pacing.specs.Rates.{next_room, refill_at, refill_time, room_at, bytes_spent};
 ghost use Rattle.rly_hop_pacing.specs.declared.rate.Bucket.{Bucket};
 
 use std::marker::Model;
@@ -42,6 +42,17 @@ impl Bucket {
             credit: self.credit.saturating_add(gained).min(self.burst()),
             mark: self.mark.max(at),
         }
+    }
+
+    /// How long it takes, from the mark on, until one of the longest messages may be sent, if none may.
+    fn refill_time(&self) -> u64
+        ensures { result ≡ refill_time self.now }
+    {
+        if self.rate == 0 {
+            return u64::MAX;
+        }
+        let lacking = cost(self.longest).saturating_sub(self.credit);
+        lacking.div_ceil(u64::from(self.rate))
     }
 }
 
@@ -85,6 +96,18 @@ impl Rate {
         self.bucket.refill_at(at).credit / cost(self.bucket.longest)
     }
 
+    /// The first moment, this one or a later one, at which one of the longest messages may be sent, in microseconds. If
+    /// there is none, the last moment, 2^64 - 1.
+    pub fn next_moment(&self, at: u64) -> u64
+        ensures { result ≡ next_room self.now at }
+    {
+        if self.room(at) > 0 {
+            at
+        } else {
+            self.bucket.mark.saturating_add(self.bucket.refill_time())
+        }
+    }
+
     /// Spends the bytes of a message, if it may be sent at this moment, and returns whether it may.
     pub fn take(&mut self, bytes: u32, at: u64) -> bool
         ensures state { self.new ≡ on_take self.old bytes at }
@@ -114,4 +137,12 @@ fn cost(bytes: u32) -> u64
 pub fn law_rate_is_kept()
     ensures { (b : Bucket) (first : OutgoingMessage) (later : List OutgoingMessage) →
         bytes_spent b (first ∷ later) ≤ burst b + b.rate * (latest (max b.mark first.at) later - max b.mark first.at) }
+{}
+
+/// The moment that `Rate::next_moment` gives isn't before `at`. From `at` on none of the longest messages may be sent before
+/// it, and at it one may, unless it is the last moment, which stands for none.
+pub fn law_next_moment_is_the_first_with_room()
+    ensures after { (b : Bucket) (at : ℕ) → at < 2 ^ 64 → at ≤ next_room b at }
+    ensures before { (b : Bucket) (at t : ℕ) → at ≤ t → t < next_room b at → room_at b t ≡ 0 }
+    ensures then { (b : Bucket) (at : ℕ) → next_room b at < 2 ^ 64 - 1 → 0 < room_at b (next_room b at) }
 {}

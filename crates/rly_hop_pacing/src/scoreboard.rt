@@ -4,8 +4,10 @@ ghost use Rattle.std.specs.Prelude.{◌≡◌, ◌+◌, ◌<◌, ◌^◌, ◌==�
 ghost use Rattle.rly_hop_pacing.specs.Scoreboards.{after_heard, after_sending, empty_board, forgotten, heard_if};
 ghost use Rattle.rly_hop_pacing.specs.Scoreboards.{heard_one, is_after_timeout, is_unanswered};
 ghost use Rattle.rly_hop_pacing.specs.Scoreboards.{is_heard, is_passed, is_reordered, is_repeated_before, is_told};
-ghost use Rattle.rly_hop_pacing.specs.Scoreboards.{last_sent, last_sent_at, on_opening, slot_of, with_late, with_newest};
+ghost use Rattle.rly_hop_pacing.specs.Scoreboards.{last_sent, last_sent_at, on_opening, passed_after, repeated_after};
+ghost use Rattle.rly_hop_pacing.specs.Scoreboards.{slot_of, with_late, with_newest};
 
+use crate::moment::moment_after;
 use rly_hop::marks;
 
 /// How many numbers have a slot. No window is longer.
@@ -102,6 +104,18 @@ impl Scoreboard {
         sent.order < self.newest && self.trip.saturating_add(slack) <= at.saturating_sub(sent.at)
     }
 
+    /// The moment from which this holds, if it doesn't yet and one that was sent later was heard.
+    pub(crate) fn passed_after(&self, number: u64, at: u64, slack: u64) -> Option<u64>
+        ensures { result ≡ passed_after self.now number at slack }
+    {
+        let sent = self.slot(number);
+        if sent.order < self.newest {
+            moment_after(sent.at, self.trip.saturating_add(slack), at)
+        } else {
+            None
+        }
+    }
+
     /// Whether a number was last sent after the last Timeout.
     pub(crate) fn is_after_timeout(&self, number: u64) -> bool
         ensures { result ≡ is_after_timeout self.now number }
@@ -129,6 +143,18 @@ impl Scoreboard {
     {
         let sent = self.slot(number);
         sent.again && wait <= at.saturating_sub(sent.at)
+    }
+
+    /// The moment from which this holds, if it doesn't yet and the number was sent more than once.
+    pub(crate) fn repeated_after(&self, number: u64, at: u64, wait: u64) -> Option<u64>
+        ensures { result ≡ repeated_after self.now number at wait }
+    {
+        let sent = self.slot(number);
+        if sent.again {
+            moment_after(sent.at, wait, at)
+        } else {
+            None
+        }
     }
 
     /// When a number was last sent.

@@ -1,7 +1,8 @@
 ghost use Rattle.std.specs.Prelude.{◌≡◌, Some};
 ghost use Rattle.rly_hop_pacing.specs.Timers.{first_timer, is_past, round_trip, timer_anew};
-ghost use Rattle.rly_hop_pacing.specs.Timers.{timer_limited, timer_on_sample, timer_on_timeout};
+ghost use Rattle.rly_hop_pacing.specs.Timers.{timer_limited, timer_moment, timer_on_sample, timer_on_timeout};
 
+use crate::moment::moment_after;
 use crate::round_trip::{FIRST_WAIT, RoundTrip, doubled_wait, plain_wait};
 
 /// The retransmission timer of a hop (RFC 6298), in microseconds.
@@ -66,6 +67,13 @@ impl Timer {
         ensures { result ≡ is_past self.now since at }
     {
         self.wait <= at.saturating_sub(since)
+    }
+
+    /// The moment at which it will have passed, if it hasn't.
+    pub(crate) fn moment(&self, since: u64, at: u64) -> Option<u64>
+        ensures { result ≡ timer_moment self.now since at }
+    {
+        moment_after(since, self.wait, at)
     }
 
     /// The timer expired.

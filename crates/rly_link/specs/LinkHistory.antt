@@ -1,10 +1,11 @@
 -- Ghost histories of a worker's link, client handle, clock and waker.
-use Rattle.std.specs.Prelude.{◌≡◌, ◌⊎◌, ℕ, ◌<◌, ◌-◌, ◌^◌, Bool, List, ◌++◌}
+use Rattle.std.specs.Prelude.{◌≡◌, ◌⊎◌, ℕ, ◌<◌, ◌-◌, ◌^◌, List, ◌++◌}
 use Rattle.std.specs.Prelude.{take, Option, Some, None, Result, Ok, Err, ⊤}
 use Rattle.std.specs.Result.{result_ok}
 use Rattle.rly_hop.specs.declared.message.Message.{Message}
 use Rattle.rly_hop.specs.MessageReads.{message_or_fault}
 use Rattle.rly_link.specs.declared.link.LinkFault.{LinkFault}
+use Rattle.rly_link.specs.declared.link.Sleep.{Sleep}
 use Rattle.rly_link.specs.declared.turn.Go.{Go}
 use Rattle.rly_link.specs.declared.turn.Point.{Point}
 use Rattle.rly_link.specs.declared.turn.Worker.{Worker}
@@ -18,13 +19,13 @@ TellsMore (Some told) new more = new ≡ Some (told ++ more)
 abbrev pub FailuresRose : ℕ → ℕ → Type 0
 FailuresRose old new = (old < new) ⊎ (old ≡ 2 ^ 64 - 1)
 
--- whether a receive of a link waited, and the packet that it returned, if any
+-- how long a receive of a link might wait, and the packet that it returned, if any
 pub record Hearing : Type 0 where
-  pub waited : Bool
+  pub sleep : Sleep
   pub packet : Option (List ℕ)
 
-abbrev pub new_hearing : Bool → Option (List ℕ) → Hearing
-new_hearing waited packet = record { waited = waited; packet = packet }
+abbrev pub new_hearing : Sleep → Option (List ℕ) → Hearing
+new_hearing sleep packet = record { sleep = sleep; packet = packet }
 
 -- the packet that a receive copied to the front of a buffer, if any
 abbrev pub packet_in : Option ℕ → List ℕ → Option (List ℕ)

@@ -1,8 +1,9 @@
 -- The ghost history of a link, a clock and a waker in memory.
-use Rattle.std.specs.Prelude.{ℕ, Bool, List, map, Option}
+use Rattle.std.specs.Prelude.{ℕ, List, map, Option}
 use Rattle.std.specs.Option.{option_map}
 use Rattle.http_server.specs.declared.log.Log.{Log}
 use Rattle.rly_core.specs.declared.ids.HopId.{HopId}
+use Rattle.rly_link.specs.declared.link.Sleep.{Sleep}
 use Rattle.rly_link.specs.declared.turn.Go.{Go}
 use Rattle.rly_link.specs.declared.turn.Point.{Point}
 use Rattle.rly_link.specs.declared.turn.Worker.{Worker}
@@ -16,8 +17,8 @@ log_bytes log = map (λ e. e.0) log.items
 abbrev pub sent_of : Log (Log ℕ (Unit {0})) (Unit {0}) → List (List ℕ)
 sent_of log = map (λ e. log_bytes e.0) log.items
 
--- whether receives waited, and the packets that they returned
-abbrev pub heard_of : Log Bool (Option (Log ℕ (Unit {0}))) → List Hearing
+-- how long receives might wait, and the packets that they returned
+abbrev pub heard_of : Log Sleep (Option (Log ℕ (Unit {0}))) → List Hearing
 heard_of log = map (λ e. new_hearing e.0 (option_map log_bytes e.1)) log.items
 
 -- the ticks, with their worker and point

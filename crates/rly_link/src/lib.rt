@@ -17,7 +17,7 @@ mod post;
 mod turn;
 mod waker;
 
-pub use crate::link::{Link, LinkFault};
+pub use crate::link::{Link, LinkFault, Sleep};
 pub use crate::mem_link::MemLink;
 pub use crate::mem_turn::MemTurn;
 pub use crate::mem_waker::MemWaker;

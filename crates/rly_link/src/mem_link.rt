@@ -4,7 +4,7 @@ ghost use Rattle.std.specs.Prelude.{◌≡◌, ◌≤◌, ◌++◌, ◌∷◌, [
 ghost use Rattle.rly_link.specs.LinkHistory.{FailuresRose, new_hearing, packet_in};
 ghost use Rattle.rly_link.specs.Memory.{heard_of, sent_of};
 
-use crate::link::{Link, LinkFault};
+use crate::link::{Link, LinkFault, Sleep};
 use crate::packet_log::{PacketLog, bytes_in};
 use http_server::Log;
 use std::alloc::Global;
@@ -20,7 +20,7 @@ pub struct MemLink {
     waits: u64,
     fails_at: u64,
     failures: u64,
-    heard: Log<bool, Option<PacketLog>>,
+    heard: Log<Sleep, Option<PacketLog>>,
     sent: Log<PacketLog, ()>,
 }
 
@@ -103,18 +103,18 @@ impl MemLink {
         }
     }
 
-    /// Records the packet of a receive, and whether it waited.
-    fn tell(&mut self, waited: bool, found: Option<usize>, buffer: &[u8])
+    /// Records the packet of a receive, and how long it might wait.
+    fn tell(&mut self, sleep: Sleep, found: Option<usize>, buffer: &[u8])
         requires { IfSome found (λ count. count ≤ length buffer.now) }
         ensures heard { heard_of self.new.heard
-            ≡ heard_of self.old.heard ++ new_hearing waited (packet_in found buffer.now) ∷ [] }
+            ≡ heard_of self.old.heard ++ new_hearing sleep (packet_in found buffer.now) ∷ [] }
         ensures same { self.new ≡ record self.old { heard = self.new.heard } }
     {
         let packet = match found {
             Some(count) => Some(bytes_in(&buffer[..count])),
             None => None,
         };
-        self.heard = self.heard.and(&waited, &packet);
+        self.heard = self.heard.and(&sleep, &packet);
     }
 }
 
@@ -128,16 +128,12 @@ impl Link for MemLink {
 
     ghost failed = { λ l. l.failures };
 
-    fn recv(&mut self, buffer: &mut [u8]) -> Result<Option<usize>, LinkFault> {
-        self.waits = self.waits.saturating_add(1);
+    fn recv(&mut self, sleep: Sleep, buffer: &mut [u8]) -> Result<Option<usize>, LinkFault> {
+        if sleep != Sleep::No {
+            self.waits = self.waits.saturating_add(1);
+        }
         let outcome = self.give_next(buffer);
-        self.tell(true, outcome.ok().flatten(), buffer);
-        outcome
-    }
-
-    fn try_recv(&mut self, buffer: &mut [u8]) -> Result<Option<usize>, LinkFault> {
-        let outcome = self.give_next(buffer);
-        self.tell(false, outcome.ok().flatten(), buffer);
+        self.tell(sleep, outcome.ok().flatten(), buffer);
         outcome
     }
 

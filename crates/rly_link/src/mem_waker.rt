@@ -48,4 +48,6 @@ impl Waker for MemWaker {
         self.wakes = self.wakes.saturating_add(1);
         self.woken = self.woken.and(&hop, &());
     }
+
+    fn wake_all(&mut self) {}
 }

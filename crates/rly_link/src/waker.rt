@@ -5,7 +5,7 @@ ghost use Rattle.rly_link.specs.LinkHistory.{TellsMore};
 
 use rly_core::HopId;
 
-/// Wakes the sender of a hop. A receiver calls `wake` on its waker, and a sender `listen` on its own.
+/// Wakes workers. A receiver calls `wake` on its waker, a sender `listen` on its own, and the relay `wake_all`.
 pub trait Waker {
     /// The hops whose senders it woke, in order, if it records them.
     ghost woken: { Self → Option (List AHop) };
@@ -17,4 +17,8 @@ pub trait Waker {
     /// A datagram was stored for this hop, whose sender now has work.
     fn wake(&mut self, hop: HopId)
         ensures woken { TellsMore (woken self.old) (woken self.new) (hop ∷ []) };
+
+    /// Ends the current wait of each worker, or else its next one: their relay ends.
+    fn wake_all(&mut self)
+        ensures woken { woken self.new ≡ woken self.old };
 }

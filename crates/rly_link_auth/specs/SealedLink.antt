@@ -23,7 +23,7 @@ new_sealed link keys = record { link = link; keys = keys; wrong = 0; given = [];
 
 -- a receive with keys, given that of the link below: the packet without its tag, or nothing if the tag is wrong
 abbrev pub heard_with : Keys → Hearing → Hearing
-heard_with keys h = new_hearing h.waited (option_and_then (unsealed_packet keys) h.packet)
+heard_with keys h = new_hearing h.sleep (option_and_then (unsealed_packet keys) h.packet)
 
 abbrev pub all_heard_with : Keys → Option (List Hearing) → Option (List Hearing)
 all_heard_with keys told = option_map (map (heard_with keys)) told

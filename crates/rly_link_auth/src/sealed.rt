@@ -7,7 +7,7 @@ ghost use Rattle.rly_link.specs.LinkHistory.{packet_in};
 
 use crate::key::{Key, TAG_BYTES};
 use http_server::Log;
-use rly_link::{Link, LinkFault, MAX_PACKET, PacketLog, bytes_in};
+use rly_link::{Link, LinkFault, MAX_PACKET, PacketLog, Sleep, bytes_in};
 use std::marker::Model;
 
 /// Maximum size of a sealed packet in bytes.
@@ -99,13 +99,8 @@ impl<L: Link> Link for Sealed<L> {
 
     ghost failed = { sealed_failed L.failed };
 
-    fn recv(&mut self, buffer: &mut [u8]) -> Result<Option<usize>, LinkFault> {
-        let found = self.link.recv(buffer)?;
-        Ok(self.unseal(found, buffer))
-    }
-
-    fn try_recv(&mut self, buffer: &mut [u8]) -> Result<Option<usize>, LinkFault> {
-        let found = self.link.try_recv(buffer)?;
+    fn recv(&mut self, sleep: Sleep, buffer: &mut [u8]) -> Result<Option<usize>, LinkFault> {
+        let found = self.link.recv(sleep, buffer)?;
         Ok(self.unseal(found, buffer))
     }
 

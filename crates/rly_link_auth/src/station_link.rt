@@ -5,7 +5,7 @@ ghost use Rattle.rly_link_auth.specs.StationLink.{keys_over, station_link, wrong
 
 use crate::key::Key;
 use crate::sealed::Sealed;
-use rly_link::{Link, LinkFault};
+use rly_link::{Link, LinkFault, Sleep};
 
 /// The link to a neighbour, with or without a key.
 #[derive(Drop)]
@@ -47,17 +47,10 @@ impl<L: Link> Link for StationLink<L> {
 
     ghost failed = { station_failed L.failed };
 
-    fn recv(&mut self, buffer: &mut [u8]) -> Result<Option<usize>, LinkFault> {
+    fn recv(&mut self, sleep: Sleep, buffer: &mut [u8]) -> Result<Option<usize>, LinkFault> {
         match self {
-            StationLink::Open(link) => link.recv(buffer),
-            StationLink::Keyed(sealed) => sealed.recv(buffer),
-        }
-    }
-
-    fn try_recv(&mut self, buffer: &mut [u8]) -> Result<Option<usize>, LinkFault> {
-        match self {
-            StationLink::Open(link) => link.try_recv(buffer),
-            StationLink::Keyed(sealed) => sealed.try_recv(buffer),
+            StationLink::Open(link) => link.recv(sleep, buffer),
+            StationLink::Keyed(sealed) => sealed.recv(sleep, buffer),
         }
     }
 

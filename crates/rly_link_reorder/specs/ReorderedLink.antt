@@ -8,6 +8,7 @@ use Rattle.rly_link_reorder.specs.ReorderBuffer.{is_heard_due}
 use Rattle.rly_hop.specs.declared.message.StationId.{StationId}
 use Rattle.rly_hop.specs.FixedBytes.{custody_number, data_number, heard_packet, refused_number}
 use Rattle.rly_link.specs.LinkHistory.{Hearing, TellsMore, new_hearing, message_in}
+use Rattle.rly_link.specs.declared.link.Sleep.{Sleep}
 
 -- the link below, this station and the peer, the reorder buffer, the packets delivered, those that were passed to it
 -- to be sent, and the count of Heards that it sent
@@ -102,6 +103,6 @@ HasSent sent old new packet heards =
     TellsMore (sent old.link) (sent new.link) (packet ∷ heards) × (new.heards ≡ heard_count old.heards heards)
 
 -- the packets delivered, with the stored packet that was due, if any
-abbrev pub given_again : Bool → Option BufferedData → List Hearing → List Hearing
-given_again waited None given = given
-given_again waited (Some k) given = given ++ new_hearing waited (Some k.packet) ∷ []
+abbrev pub given_again : Sleep → Option BufferedData → List Hearing → List Hearing
+given_again sleep None given = given
+given_again sleep (Some k) given = given ++ new_hearing sleep (Some k.packet) ∷ []

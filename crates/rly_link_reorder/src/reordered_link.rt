@@ -1,7 +1,7 @@
 //! A link with a reorder buffer.
 
 ghost use Rattle.std.specs.Prelude.{◌≡◌, ◌⊎◌, ◌≤◌, ◌++◌, ◌∷◌, [], if◌then◌else◌, IfNone, IfOk, IfSome, None, OnErr};
-ghost use Rattle.std.specs.Prelude.{OnOk, Some, false, length, true};
+ghost use Rattle.std.specs.Prelude.{OnOk, Some, length};
 ghost use Rattle.std.specs.Option.{option_map};
 ghost use Rattle.rly_link_reorder.specs.ReorderedLink.{after_hearing, after_receive, after_sending, given_again};
 ghost use Rattle.rly_link_reorder.specs.ReorderedLink.{HasSent, heards_after, new_reordered};
@@ -13,7 +13,7 @@ ghost use Rattle.rly_link.specs.Memory.{heard_of};
 use crate::reorder_buffer::ReorderBuffer;
 use http_server::Log;
 use rly_hop::{HEARD_LENGTH, StationId, custody_number, data_number, heard_packet, refused_number};
-use rly_link::{Link, LinkFault, PacketLog, bytes_in};
+use rly_link::{Link, LinkFault, PacketLog, Sleep, bytes_in};
 use std::marker::Model;
 
 /// A link with a peer over another link, which delivers early Data again when their turn comes, and sends a Heard after
@@ -25,7 +25,7 @@ pub struct ReorderedLink<L: Link> {
     own: StationId,
     peer: StationId,
     early: ReorderBuffer,
-    given: Log<bool, Option<PacketLog>>,
+    given: Log<Sleep, Option<PacketLog>>,
     passed: Log<PacketLog, ()>,
     /// Heards passed to the link below. The count stops at its last value.
     heards: u64,
@@ -87,45 +87,45 @@ impl<L: Link> ReorderedLink<L> {
     }
 
     /// Delivers the stored packet that is due, if there is one that fits.
-    fn give(&mut self, waited: bool, buffer: &mut [u8]) -> Option<usize>
+    fn give(&mut self, sleep: Sleep, buffer: &mut [u8]) -> Option<usize>
         ensures bound { IfSome result (λ count. count ≤ length buffer.new) }
         ensures packet { packet_in result buffer.new
             ≡ option_map (λ k. k.packet) (due_data self.old.early (length buffer.old)) }
         ensures after { self.new ≡ record self.old {
           early = after_giving self.old.early (length buffer.old);
-          given = given_again waited (due_data self.old.early (length buffer.old)) self.old.given;
+          given = given_again sleep (due_data self.old.early (length buffer.old)) self.old.given;
         } }
     {
         let count = self.early.give(buffer)?;
-        self.tell(waited, Some(count), buffer);
+        self.tell(sleep, Some(count), buffer);
         Some(count)
     }
 
-    /// Records the packet of a receive, and whether it waited.
-    fn tell(&mut self, waited: bool, found: Option<usize>, buffer: &[u8])
+    /// Records the packet of a receive, and how long it might wait.
+    fn tell(&mut self, sleep: Sleep, found: Option<usize>, buffer: &[u8])
         requires { IfSome found (λ count. count ≤ length buffer.now) }
         ensures { self.new
-            ≡ record self.old { given = self.old.given ++ new_hearing waited (packet_in found buffer.now) ∷ [] } }
+            ≡ record self.old { given = self.old.given ++ new_hearing sleep (packet_in found buffer.now) ∷ [] } }
     {
         let packet = match found {
             Some(count) => Some(bytes_in(&buffer[..count])),
             None => None,
         };
-        self.given = self.given.and(&waited, &packet);
+        self.given = self.given.and(&sleep, &packet);
     }
 
     /// Handles and records a receive of the link below.
-    fn hear(&mut self, waited: bool, found: Option<usize>, buffer: &[u8])
+    fn hear(&mut self, sleep: Sleep, found: Option<usize>, buffer: &[u8])
         requires { IfSome found (λ count. count ≤ length buffer.now) }
         ensures { self.new ≡ record self.old {
           early = after_hearing self.old.own self.old.peer self.old.early (packet_in found buffer.now);
-          given = self.old.given ++ new_hearing waited (packet_in found buffer.now) ∷ [];
+          given = self.old.given ++ new_hearing sleep (packet_in found buffer.now) ∷ [];
         } }
     {
         if let Some(count) = found {
             self.keep(&buffer[..count]);
         }
-        self.tell(waited, found, buffer);
+        self.tell(sleep, found, buffer);
     }
 
     /// The Heard that is due, if one is.
@@ -157,9 +157,9 @@ impl<L: Link> Link for ReorderedLink<L> {
 
     ghost failed = { reordered_failures L.failed };
 
-    fn recv(&mut self, buffer: &mut [u8]) -> Result<Option<usize>, LinkFault>
+    fn recv(&mut self, sleep: Sleep, buffer: &mut [u8]) -> Result<Option<usize>, LinkFault>
         ensures bound { IfOk result (λ found. IfSome found (λ count. count ≤ length buffer.new)) }
-        ensures heard { self.new.given ≡ self.old.given ++ new_hearing true (packet_of result buffer.new) ∷ [] }
+        ensures heard { self.new.given ≡ self.old.given ++ new_hearing sleep (packet_of result buffer.new) ∷ [] }
         ensures sent { self.new.passed ≡ self.old.passed }
         ensures silent { L.sent self.new.link ≡ L.sent self.old.link }
         ensures uncounted { self.new.heards ≡ self.old.heards }
@@ -170,37 +170,14 @@ impl<L: Link> Link for ReorderedLink<L> {
             (λ k. (packet_of result buffer.new ≡ Some k.packet) × (self.new.link ≡ self.old.link)) }
         ensures asked { IfNone (due_data self.old.early (length buffer.old))
             (TellsMore (L.heard self.old.link) (L.heard self.new.link)
-            (new_hearing true (packet_of result buffer.new) ∷ [])) }
+            (new_hearing sleep (packet_of result buffer.new) ∷ [])) }
         ensures after { self.new.early ≡ after_receive self.old (length buffer.old) (packet_of result buffer.new) }
     {
-        if let Some(count) = self.give(true, buffer) {
+        if let Some(count) = self.give(sleep, buffer) {
             return Ok(Some(count));
         }
-        let outcome = self.link.recv(buffer);
-        self.hear(true, outcome.ok().flatten(), buffer);
-        outcome
-    }
-
-    fn try_recv(&mut self, buffer: &mut [u8]) -> Result<Option<usize>, LinkFault>
-        ensures bound { IfOk result (λ found. IfSome found (λ count. count ≤ length buffer.new)) }
-        ensures heard { self.new.given ≡ self.old.given ++ new_hearing false (packet_of result buffer.new) ∷ [] }
-        ensures sent { self.new.passed ≡ self.old.passed }
-        ensures silent { L.sent self.new.link ≡ L.sent self.old.link }
-        ensures uncounted { self.new.heards ≡ self.old.heards }
-        ensures rise { OnErr result (FailuresRose (L.failed self.old.link) (L.failed self.new.link)) }
-        ensures no_failure { OnOk result (L.failed self.new.link ≡ L.failed self.old.link) }
-        ensures again { IfSome (due_data self.old.early (length buffer.old))
-            (λ k. (packet_of result buffer.new ≡ Some k.packet) × (self.new.link ≡ self.old.link)) }
-        ensures asked { IfNone (due_data self.old.early (length buffer.old))
-            (TellsMore (L.heard self.old.link) (L.heard self.new.link)
-            (new_hearing false (packet_of result buffer.new) ∷ [])) }
-        ensures after { self.new.early ≡ after_receive self.old (length buffer.old) (packet_of result buffer.new) }
-    {
-        if let Some(count) = self.give(false, buffer) {
-            return Ok(Some(count));
-        }
-        let outcome = self.link.try_recv(buffer);
-        self.hear(false, outcome.ok().flatten(), buffer);
+        let outcome = self.link.recv(sleep, buffer);
+        self.hear(sleep, outcome.ok().flatten(), buffer);
         outcome
     }
 

@@ -1,3 +1,4 @@
+pub mod BellSteps
 pub mod CountedPosts
 pub mod Turns
 pub mod Sending

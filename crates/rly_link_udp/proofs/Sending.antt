@@ -37,37 +37,8 @@ tags_send = search (sendable, crosses, the_send) depth 30
 udp_send : (C : RattleType) → IsSend C → IsSend (UdpLink.the_row C)
 udp_send C c =
     let udp : Declared = UdpLink.the_type C in
-    let fields : AllSend (rows udp.parts) = (
-      search (sendable, crosses) depth 20,
-      (
-        search (sendable, crosses) depth 20,
-        (
-          search (sendable, c) depth 20,
-          (
-            search sendable depth 20,
-            (
-              search sendable depth 20,
-              (
-                search (sendable, crosses) depth 20,
-                (
-                  search sendable depth 20,
-                  (
-                    search (sendable, crosses, sends_send) depth 20,
-                    (
-                      search (sendable, crosses) depth 60,
-                      (
-                        search (sendable, crosses) depth 20,
-                        tt,
-                      ),
-                    ),
-                  ),
-                ),
-              ),
-            ),
-          ),
-        ),
-      ),
-    ) in
+    let fields : AllSend (rows udp.parts) =
+    (search (sendable, crosses) depth 20, (search (sendable, crosses) depth 20, (search (sendable, c) depth 20, (search sendable depth 20, (search (sendable, crosses) depth 20, (search sendable depth 20, (search (sendable, crosses, sends_send) depth 20, (search (sendable, crosses) depth 60, (search (sendable, crosses) depth 20, (search (sendable, crosses) depth 20, tt)))))))))) in
     recorded_send (Struct (shape udp)) udp.D udp.to udp.to_one (struct_send (shape udp) fields)
 
 key_send : IsSend Key.the_row

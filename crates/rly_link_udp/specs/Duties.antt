@@ -1,5 +1,5 @@
 -- The workers of a plan, and the duty of each.
-use Rattle.std.specs.Prelude.{ℕ, List, ◌==◌, map, Bool, false, is_some, option_and_then, Option, None, Some}
+use Rattle.std.specs.Prelude.{ℕ, List, ◌==◌, nat_lt, if◌then◌else◌, map, Bool, false, is_some, option_and_then, Option, None, Some}
 use Rattle.std.specs.Option.{option_map}
 use Rattle.rly_plan.specs.ContactPlan.{ContactPlan, next_hop_at, peer_at}
 use Rattle.rly_plan_syntax.specs.Endpoints.{Endpoints}
@@ -39,6 +39,11 @@ is_first (worker.Sender hop) = false
 
 abbrev pub warned_of : Worker → WarningDuty
 warned_of w = record { failures = Some (none_yet (Send w)); tags = w; clock = is_first w; before = None }
+
+-- The longest wait of a worker's link, in microseconds, if it has one: ten milliseconds if its turns are bounded, and else a
+-- second if it watches the wall clock.
+abbrev pub longest_wait : Worker → ℕ → Option ℕ
+longest_wait w turns = if nat_lt 0 turns then Some 10000 else (if is_first w then Some 1000000 else None)
 
 -- a worker, the addresses of its link, the link's keys and reorder buffer, the number of its turns, and its
 -- warnings

@@ -1,3 +1,4 @@
+pub mod Bells
 pub mod ClockWatch
 pub mod WallClock
 pub mod WrongTags

@@ -4,11 +4,13 @@
 //! authentication if the plan names a key, and a reorder buffer for peers. It logs the first link
 //! whose receive buffer is too small. A link counts and logs failed sends and wrong tags. A
 //! `WallClock` reads the system's clocks and ends a worker after its turns
-//! (`specs/WallClock.antt`); `Wakeups` wake the senders. Callers: `rly_daemon_serve` and
+//! (`specs/WallClock.antt`); `Bells` end the waits of workers. Callers: `rly_daemon_serve` and
 //! `rly_daemon`.
 #![tactic(auto)]
 
+mod bells;
 mod clock_watch;
+mod laws;
 mod link_reorder;
 mod neighbour_link;
 mod posts;
@@ -16,10 +18,10 @@ mod receive_buffer;
 mod sender_waker;
 mod signals;
 mod udp_link;
-mod wakeups;
 mod wall_clock;
 mod wrong_tags;
 
+pub use crate::laws::law_stored_datagram_ends_the_sleep;
 pub use crate::neighbour_link::NeighbourLink;
 pub use crate::posts::{UdpPost, posts_of};
 pub use crate::sender_waker::SenderWaker;

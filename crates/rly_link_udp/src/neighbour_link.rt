@@ -8,7 +8,7 @@ ghost use Rattle.rly_link_auth.specs.StationLink.{keys_over, station_link};
 use crate::link_reorder::LinkReorder;
 use crate::udp_link::UdpLink;
 use crate::wrong_tags::WrongTags;
-use rly_link::{Link, LinkFault, Worker};
+use rly_link::{Link, LinkFault, Sleep, Worker};
 use rly_link_auth::{Key, MeteredLink, StationLink};
 use rly_link_reorder::ReorderedLink;
 use rly_station::Logger;
@@ -80,7 +80,7 @@ impl<C: Clock + Drop> MeteredLink for NeighbourLink<C> {
 }
 
 impl<C: Clock + Drop> Link for NeighbourLink<C> {
-    ghost use Rattle.std.specs.Prelude.{◌≡◌, ◌≤◌, ◌∷◌, ◌++◌, [], false, true, IfOk, IfSome, OnErr, OnOk, length};
+    ghost use Rattle.std.specs.Prelude.{◌≡◌, ◌≤◌, ◌∷◌, ◌++◌, [], IfOk, IfSome, OnErr, OnOk, length};
     ghost use Rattle.rly_link_udp.specs.Neighbour.{neighbour_failed, neighbour_heard, neighbour_sent};
     ghost use Rattle.rly_link_udp.specs.WrongTags.{tag_warnings};
     ghost use Rattle.rly_station.specs.Warnings.{logged_warnings};
@@ -93,10 +93,10 @@ impl<C: Clock + Drop> Link for NeighbourLink<C> {
 
     ghost failed = { λ l. neighbour_failed l };
 
-    fn recv(&mut self, buffer: &mut [u8]) -> Result<Option<usize>, LinkFault>
+    fn recv(&mut self, sleep: Sleep, buffer: &mut [u8]) -> Result<Option<usize>, LinkFault>
         ensures bound { IfOk result (λ found. IfSome found (λ count. count ≤ length buffer.new)) }
         ensures heard { TellsMore (neighbour_heard self.old) (neighbour_heard self.new)
-            (new_hearing true (packet_of result buffer.new) ∷ []) }
+            (new_hearing sleep (packet_of result buffer.new) ∷ []) }
         ensures sent { neighbour_sent self.new ≡ neighbour_sent self.old }
         ensures rise { OnErr result (FailuresRose (neighbour_failed self.old) (neighbour_failed self.new)) }
         ensures no_failure { OnOk result (neighbour_failed self.new ≡ neighbour_failed self.old) }
@@ -105,24 +105,7 @@ impl<C: Clock + Drop> Link for NeighbourLink<C> {
             ++ tag_warnings self.old.wrong_tags.worker (wrong_tags self.old.link.link) (wrong_tags self.new.link.link) }
     {
         let before = self.link.link().wrong_tags();
-        let outcome = self.link.recv(buffer);
-        self.wrong_tags.note(before, self.link.link().wrong_tags());
-        outcome
-    }
-
-    fn try_recv(&mut self, buffer: &mut [u8]) -> Result<Option<usize>, LinkFault>
-        ensures bound { IfOk result (λ found. IfSome found (λ count. count ≤ length buffer.new)) }
-        ensures heard { TellsMore (neighbour_heard self.old) (neighbour_heard self.new)
-            (new_hearing false (packet_of result buffer.new) ∷ []) }
-        ensures sent { neighbour_sent self.new ≡ neighbour_sent self.old }
-        ensures rise { OnErr result (FailuresRose (neighbour_failed self.old) (neighbour_failed self.new)) }
-        ensures no_failure { OnOk result (neighbour_failed self.new ≡ neighbour_failed self.old) }
-        ensures whose { self.new.wrong_tags.worker ≡ self.old.wrong_tags.worker }
-        ensures told { logged_warnings self.new.wrong_tags.teller ≡ logged_warnings self.old.wrong_tags.teller
-            ++ tag_warnings self.old.wrong_tags.worker (wrong_tags self.old.link.link) (wrong_tags self.new.link.link) }
-    {
-        let before = self.link.link().wrong_tags();
-        let outcome = self.link.try_recv(buffer);
+        let outcome = self.link.recv(sleep, buffer);
         self.wrong_tags.note(before, self.link.link().wrong_tags());
         outcome
     }

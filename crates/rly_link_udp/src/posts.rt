@@ -3,7 +3,7 @@
 ghost use Rattle.std.specs.Option.{option_map};
 ghost use Rattle.std.specs.Prelude.{◌≡◌, ◌++◌, IfOk, None, Some, is_some, map, option_and_then, option_copied};
 ghost use Rattle.rly_plan.specs.Sound.{IsSoundPlan};
-ghost use Rattle.rly_link_udp.specs.Duties.{addresses_of, duties, duty_at, duty_of, is_first};
+ghost use Rattle.rly_link_udp.specs.Duties.{addresses_of, duties, duty_at, duty_of, is_first, longest_wait};
 ghost use Rattle.rly_link_udp.specs.WallClock.{turns_left};
 ghost use Rattle.rly_station.specs.ReceiveBuffers.{buffer_warnings, wanted_buffer};
 ghost use Rattle.rly_station.specs.Warnings.{known_of, logged_warnings, none_yet};
@@ -14,9 +14,7 @@ use crate::neighbour_link::NeighbourLink;
 use crate::sender_waker::SenderWaker;
 use crate::signals::Signals;
 use crate::udp_link::UdpLink;
-use crate::wakeups::Wakeups;
 use crate::wall_clock::WallClock;
-use rly_core::HopId;
 use rly_link::{Post, Worker};
 use rly_plan::{Addresses, Plan};
 use rly_station::{
@@ -32,7 +30,7 @@ use std::time::Clock;
 pub type UdpPost<'a, H> = Post<NeighbourLink<&'a H>, WallClock<&'a H>, SenderWaker>;
 
 /// The workers of a plan, each with its clock and its link, which buffers packets of at most `longest` bytes. They
-/// log their warnings on the lines.
+/// log their warnings on the lines. With them comes a waker that ends the waits of all.
 pub fn posts_of<'a, H: AllocGlobal + Net + Clock>(
     rt: &'a H,
     plan: &Plan,
@@ -40,15 +38,16 @@ pub fn posts_of<'a, H: AllocGlobal + Net + Clock>(
     longest: usize,
     turns: u64,
     lines: Arc<ErrorLines, Global>,
-) -> Result<Vec<UdpPost<'a, H>>, ServeFault>
+) -> Result<(Vec<UdpPost<'a, H>>, SenderWaker), ServeFault>
     requires { IsSoundPlan plan.now }
-    ensures { IfOk result (λ posts. map duty_at posts.items ≡ duties plan.now keys.entry longest turns) }
+    ensures { IfOk result (λ posts. map duty_at posts.0.items ≡ duties plan.now keys.entry longest turns) }
 {
-    let signals = Signals::open(rt, rt.alloc(), plan, lines)?;
+    let signals = Signals::open(rt.alloc(), plan, lines)?;
     let posts = shared_posts(rt, plan, keys, longest, turns, &signals)?;
     let mut teller = signals.logger()?;
     warn_of_buffers(posts.as_slice(), longest, &mut teller);
-    Ok(posts)
+    let bell = SenderWaker::new(signals.bells()?);
+    Ok((posts, bell))
 }
 
 /// The same, for workers that share these signals.
@@ -73,8 +72,8 @@ fn shared_posts<'a, H: AllocGlobal + Net + Clock>(
 }
 
 /// A worker of a plan, with its link, its clock and its waker. The link is sealed if it has a key, and has a reorder
-/// buffer for a peer's packets of up to `longest` bytes. The waker has the wakers of all hops, and a sender's link has
-/// that of its own hop. Warnings go to the lines. A worker whose neighbour isn't in the plan has no link.
+/// buffer for a peer's packets of up to `longest` bytes. The waker has the bells of all workers, and the link has that of
+/// its own worker. Warnings go to the lines. A worker whose neighbour isn't in the plan has no link.
 fn post_of<'a, H: AllocGlobal + Net + Clock>(
     rt: &'a H,
     plan: &Plan,
@@ -91,12 +90,12 @@ fn post_of<'a, H: AllocGlobal + Net + Clock>(
     };
     let turn = turn_of(rt, worker, turns, signals)?;
     let teller = signals.logger()?;
-    let socket = socket_of(rt, rt.alloc(), worker, addresses, signals)?;
+    let socket = socket_of(rt, rt.alloc(), worker, addresses, turns, signals)?;
     let buffer = buffer_of(worker, &socket, longest);
     let keeping = LinkReorder::new(rt.alloc(), plan, worker, longest)?;
     let key = key.map(|key| key.into_key());
     let link = NeighbourLink::new(socket, key, worker, teller, keeping, buffer);
-    let waker = SenderWaker::new(signals.wakeups()?);
+    let waker = SenderWaker::new(signals.bells()?);
     Ok(Post {
         worker,
         link,
@@ -105,24 +104,30 @@ fn post_of<'a, H: AllocGlobal + Net + Clock>(
     })
 }
 
-/// The socket of a worker's link, which logs failed sends. That of a sender has the waker of its hop.
+/// The socket of a worker's link, which logs failed sends and has the worker's bell.
 fn socket_of<'a, H: Net + Clock>(
     rt: &'a H,
     alloc: Global,
     worker: Worker,
     addresses: &Addresses,
+    turns: u64,
     signals: &Signals,
 ) -> Result<UdpLink<&'a H>, ServeFault>
     ensures addresses { IfOk result (λ link. link.addresses.value ≡ addresses.now) }
     ensures sends { IfOk result
         (λ link. option_map known_of link.failed_sends ≡ Some (none_yet (SystemCall.Send worker))) }
 {
-    let wakeup = wakeup_of(worker, signals)?;
+    let bells = signals.bells()?;
     let teller = signals.logger()?;
     match UdpLink::open(rt, rt, addresses) {
         Ok(socket) => {
             let failed_sends = FailedCalls::new(SystemCall::Send(worker), teller);
-            Ok(socket.with_wakeup(wakeup).with_failed_sends(failed_sends))
+            Ok(
+                socket
+                    .with_bell(bells, worker)
+                    .with_longest_wait(longest_wait(worker, turns))
+                    .with_failed_sends(failed_sends),
+            )
         }
         Err(fault) => Err(fault_of_link(alloc, worker, addresses, fault)),
     }
@@ -152,14 +157,17 @@ fn warn_of_buffers<H: Clock>(posts: &[UdpPost<'_, H>], longest: usize, teller: &
     }
 }
 
-/// The waker of a sender's hop. A receiver's link has none.
-fn wakeup_of(
-    worker: Worker,
-    signals: &Signals,
-) -> Result<Option<(Arc<Wakeups, Global>, HopId)>, AllocError> {
-    match worker {
-        Worker::Receiver(_) => Ok(None),
-        Worker::Sender(hop) => Ok(Some((signals.wakeups()?, hop))),
+/// The longest wait of a worker, in microseconds, if it has one: if its turns are bounded, and if it watches the wall
+/// clock.
+fn longest_wait(worker: Worker, turns: u64) -> Option<u64>
+    ensures { result ≡ longest_wait worker turns }
+{
+    if turns > 0 {
+        Some(10_000)
+    } else if is_first(worker) {
+        Some(1_000_000)
+    } else {
+        None
     }
 }
 
@@ -177,7 +185,7 @@ fn turn_of<'a, H: Clock>(
     if !is_first(worker) {
         return Ok(WallClock::new(rt, turns));
     }
-    let watch = ClockWatch::new(signals.logger()?);
+    let watch = ClockWatch::new(signals.logger()?, signals.bells()?);
     Ok(WallClock::new(rt, turns).with_watch(watch))
 }
 

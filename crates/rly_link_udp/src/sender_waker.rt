@@ -1,25 +1,25 @@
-//! The waker of a worker: it ends the wait of a hop's sender.
+//! The waker of a worker: it ends the waits of workers by their bells.
 
-use crate::wakeups::Wakeups;
+use crate::bells::Bells;
 use http_server::Log;
 use rly_core::HopId;
 use rly_link::Waker;
 use std::alloc::Global;
 use std::sync::Arc;
 
-/// The waker of a worker at a station, with the wakers of all hops.
+/// The waker of a worker at a station, with the bells of all workers.
 #[derive(Drop)]
 pub struct SenderWaker {
-    wakeups: Arc<Wakeups, Global>,
+    bells: Arc<Bells, Global>,
     // The hops whose senders it woke, which take no memory.
     woken: Log<HopId, ()>,
 }
 
 impl SenderWaker {
-    /// A waker with these wakers of the hops.
-    pub(crate) fn new(wakeups: Arc<Wakeups, Global>) -> SenderWaker {
+    /// A waker with these bells.
+    pub(crate) fn new(bells: Arc<Bells, Global>) -> SenderWaker {
         SenderWaker {
-            wakeups,
+            bells,
             woken: Log::new(),
         }
     }
@@ -32,11 +32,15 @@ impl Waker for SenderWaker {
     ghost woken = { λ w. Some (woken_of w.woken) };
 
     fn listen(&mut self, hop: HopId) {
-        self.wakeups.listen(hop);
+        self.bells.listen(hop);
     }
 
     fn wake(&mut self, hop: HopId) {
-        self.wakeups.wake(hop);
+        self.bells.wake(hop);
         self.woken = self.woken.and(&hop, &());
+    }
+
+    fn wake_all(&mut self) {
+        self.bells.wake_all();
     }
 }

@@ -1,22 +1,29 @@
 ghost use Rattle.std.specs.Prelude.{◌≡◌, ◌≤◌, ◌-◌, ◌^◌, ◌↔◌, IfOk, IfSome, IsErr, IsTrue, Some, length};
 ghost use Rattle.rly_link.specs.LinkHistory.{FailuresRose};
 
+use crate::bells::{Bell, Bells};
 use crate::receive_buffer::grow_buffer;
-use crate::wakeups::Wakeups;
-use rly_core::HopId;
-use rly_link::{Link, LinkFault};
+use libc::net::{POLLIN, POLLOUT, poll};
+use libc::types::pollfd;
+use rly_link::{Link, LinkFault, Sleep, Worker};
 use rly_plan::Addresses;
-use rly_station::{End, EndFault, FailedCalls, SystemWord};
+use rly_station::{End, EndFault, FailedCalls, SystemWord, moment_of};
 use std::alloc::Global;
 use std::io::ErrorKind;
 use std::net::{Net, SocketAddr, ToSocketAddrs, UdpSocket};
+use std::os::fd::AsRawFd;
 use std::snapshot::Snapshot;
 use std::sync::Arc;
 use std::time::{Clock, Duration};
 use std::{io, thread};
 
-/// The maximum wait of a receive, in milliseconds.
-const WAIT: u64 = 10;
+/// The pause after a receive that failed, in milliseconds.
+const PAUSE: u64 = 10;
+
+/// The longest wait for room to send, and the longest one that the system is asked for, in milliseconds.
+const LONGEST_SEND: i32 = 1_000;
+
+const MOST_MILLIS: u64 = i32::MAX as u64;
 
 /// After a packet, a receive pauses so that more can arrive: for this part of the time since the last wait, but at
 /// most the maximum, and not at all below the minimum. Both in microseconds.
@@ -26,8 +33,8 @@ const LONGEST: u64 = 1_000;
 
 const SHORTEST: u64 = 50;
 
-/// A link over UDP. It receives from any address, and sends to one. An empty packet ends a wait and is dropped: it
-/// is no message, and the waker of a hop's link sends one.
+/// A link over UDP. It receives from any address, and sends to one. An empty packet is dropped: it is no message. A wait
+/// ends as its worker's bell is rung.
 ///
 /// The system truncates a packet that is longer than the buffer of a receive. No message fills a worker's buffer,
 /// so a truncated packet is no message. The packets of a socket are outside of the proofs: this link records no
@@ -37,16 +44,16 @@ pub struct UdpLink<C: Clock + Drop> {
     socket: UdpSocket,
     remote: SocketAddr,
     clock: C,
-    /// Whether the socket is in blocking mode.
-    waits: bool,
     failures: u64,
     /// The time at which its last wait ended with a packet, and the number of packets since, including that one.
     waited: Duration,
     given: u64,
     /// Its failed sends, if they are logged.
     failed_sends: Option<FailedCalls>,
-    /// The waker that ends its waits, and the hop of the link, if it has one.
-    wakeup: Option<(Arc<Wakeups, Global>, HopId)>,
+    /// The bells of the station, and its worker, whose bell ends its waits, if it has them.
+    bells: Option<(Arc<Bells, Global>, Worker)>,
+    /// The longest wait of a receive, in microseconds, if it has one.
+    longest: Option<u64>,
     addresses: Snapshot<Addresses>,
 }
 
@@ -63,21 +70,29 @@ impl<C: Clock + Drop> UdpLink<C> {
             socket,
             remote,
             clock,
-            waits: true,
             failures: 0,
             waited: Duration::ZERO,
             given: 0,
             failed_sends: None,
-            wakeup: None,
+            bells: None,
+            longest: None,
             addresses: Snapshot::of(addresses),
         })
     }
 
-    /// The same, with the waker of a hop, if there is one, to end its waits.
-    pub(crate) fn with_wakeup(mut self, wakeup: Option<(Arc<Wakeups, Global>, HopId)>) -> UdpLink<C>
-        ensures { result ≡ record self { wakeup = result.wakeup } }
+    /// The same, whose waits end by the bell of a worker.
+    pub(crate) fn with_bell(mut self, bells: Arc<Bells, Global>, worker: Worker) -> UdpLink<C>
+        ensures { result ≡ record self { bells = result.bells } }
     {
-        self.wakeup = wakeup;
+        self.bells = Some((bells, worker));
+        self
+    }
+
+    /// The same, each of whose waits is at most this long, in microseconds, if it is a bound.
+    pub(crate) fn with_longest_wait(mut self, longest: Option<u64>) -> UdpLink<C>
+        ensures { result ≡ record self { longest = longest } }
+    {
+        self.longest = longest;
         self
     }
 
@@ -95,21 +110,76 @@ impl<C: Clock + Drop> UdpLink<C> {
         self
     }
 
-    /// Receives once, and waits unless it was woken since its last wait.
-    fn receive_waiting(&mut self, buffer: &mut [u8]) -> io::Result<Option<usize>>
+    /// Receives once. If no packet is there, waits at most this long for one, unless it was woken since its last wait.
+    fn receive_waiting(&mut self, sleep: Sleep, buffer: &mut [u8]) -> io::Result<Option<usize>>
         ensures bound { IfOk result (λ found. IfSome found (λ count. count ≤ length buffer.new)) }
-        ensures same { self.new ≡ record self.old { waits = self.new.waits } }
+        ensures same { self.new ≡ self.old }
         ensures spent { self.old.failures ≡ 2 ^ 64 - 1 → IsErr result }
     {
-        let waits = match &self.wakeup {
-            Some((wakeups, hop)) => wakeups.begin_wait(*hop),
-            None => true,
-        };
-        let outcome = self.receive(waits, buffer);
-        if let Some((wakeups, hop)) = &self.wakeup {
-            wakeups.end_wait(*hop);
+        let found = self.receive(buffer)?;
+        if found.is_some() {
+            return Ok(found);
         }
-        outcome
+        self.wait(sleep);
+        self.receive(buffer)
+    }
+
+    /// Waits at most this long for a packet or a wake-up.
+    fn wait(&self, sleep: Sleep) {
+        let timeout = self.timeout_of(sleep);
+        match self.bell() {
+            Some(bell) => {
+                if bell.begin_wait() {
+                    wait_for_any(
+                        &mut [readable(self.socket.as_raw_fd()), readable(bell.fd())],
+                        timeout,
+                    );
+                }
+                bell.end_wait();
+            }
+            None => wait_for_any(&mut [readable(self.socket.as_raw_fd())], timeout),
+        }
+    }
+
+    /// The bell that ends its waits, if it has one.
+    fn bell(&self) -> Option<&Bell> {
+        let (bells, worker) = self.bells.as_ref()?;
+        bells.of(*worker)
+    }
+
+    /// A wait in milliseconds, rounded up, and -1 if it has no end.
+    fn timeout_of(&self, sleep: Sleep) -> i32 {
+        let left = match sleep {
+            Sleep::No => Some(0),
+            Sleep::Until(moment) => Some(moment.saturating_sub(moment_of(
+                self.clock.monotonic().ok(),
+            ))),
+            Sleep::Woken => None,
+        };
+        match self.sooner(left) {
+            Some(left) => left.div_ceil(1_000).min(MOST_MILLIS) as i32,
+            None => -1,
+        }
+    }
+
+    /// The shorter of a wait and the longest one that it may take, in microseconds.
+    fn sooner(&self, left: Option<u64>) -> Option<u64> {
+        match (left, self.longest) {
+            (Some(left), Some(longest)) => Some(left.min(longest)),
+            (None, longest) => longest,
+            (left, None) => left,
+        }
+    }
+
+    /// A receive that began then returned a packet.
+    fn note_given(&mut self, waits: bool, began: Duration)
+        ensures { self.new ≡ record self.old { waited = self.new.waited; given = self.new.given } }
+    {
+        if waits {
+            self.let_others_come(began);
+        } else {
+            self.given = self.given.saturating_add(1);
+        }
     }
 
     /// After a wait that began then and returned a packet: pauses so that more can arrive, if several arrived
@@ -139,28 +209,15 @@ impl<C: Clock + Drop> UdpLink<C> {
         self.failures == u64::MAX
     }
 
-    /// Switches the socket's blocking mode, if it changes.
-    fn set_waits(&mut self, waits: bool) -> io::Result<()>
-        ensures { self.new ≡ record self.old { waits = self.new.waits } }
-    {
-        if waits != self.waits {
-            self.socket.set_nonblocking(!waits)?;
-            self.waits = waits;
-        }
-        Ok(())
-    }
-
-    /// Receives once: a packet, or nothing if none has arrived. Fails if the count of failures is at its last
-    /// value.
-    fn receive(&mut self, waits: bool, buffer: &mut [u8]) -> io::Result<Option<usize>>
+    /// Receives once without a wait: a packet, or nothing if none has arrived. Fails if the count of failures is at its
+    /// last value.
+    fn receive(&self, buffer: &mut [u8]) -> io::Result<Option<usize>>
         ensures bound { IfOk result (λ found. IfSome found (λ count. count ≤ length buffer.new)) }
-        ensures same { self.new ≡ record self.old { waits = self.new.waits } }
-        ensures spent { self.old.failures ≡ 2 ^ 64 - 1 → IsErr result }
+        ensures spent { self.now.failures ≡ 2 ^ 64 - 1 → IsErr result }
     {
         if self.is_spent() {
             return Err(io::Error::from(ErrorKind::Other));
         }
-        self.set_waits(waits)?;
         match self.socket.recv(buffer) {
             Ok(0) => Ok(None),
             Ok(count) => Ok(Some(count)),
@@ -169,14 +226,11 @@ impl<C: Clock + Drop> UdpLink<C> {
         }
     }
 
-    /// Sends, and waits for room in the system's buffer, so that a slow link isn't mistaken for a lossy one. The
-    /// socket is switched to blocking mode only if there is no room.
-    fn send_waiting(&mut self, packet: &[u8]) -> io::Result<usize>
-        ensures { self.new ≡ record self.old { waits = self.new.waits } }
-    {
+    /// Sends, and waits for room in the system's buffer, so that a slow link isn't mistaken for a lossy one.
+    fn send_waiting(&self, packet: &[u8]) -> io::Result<usize> {
         match self.socket.send_to(packet, self.remote) {
             Err(error) if error.kind() == ErrorKind::WouldBlock => {
-                self.set_waits(true)?;
+                wait_for_any(&mut [writable(self.socket.as_raw_fd())], LONGEST_SEND);
                 self.socket.send_to(packet, self.remote)
             }
             outcome => outcome,
@@ -204,42 +258,32 @@ impl<C: Clock + Drop> Link for UdpLink<C> {
 
     ghost failed = { λ l. l.failures };
 
-    fn recv(&mut self, buffer: &mut [u8]) -> Result<Option<usize>, LinkFault>
+    fn recv(&mut self, sleep: Sleep, buffer: &mut [u8]) -> Result<Option<usize>, LinkFault>
         ensures bound { IfOk result (λ found. IfSome found (λ count. count ≤ length buffer.new)) }
         ensures rise { OnErr result (FailuresRose self.old.failures self.new.failures) }
         ensures no_failure { OnOk result (self.new.failures ≡ self.old.failures) }
         ensures spent { self.old.failures ≡ 2 ^ 64 - 1 → IsErr result }
         ensures quiet { self.new.failed_sends ≡ self.old.failed_sends }
     {
+        let waits = sleep != Sleep::No;
         let began = self.moment();
-        match self.receive_waiting(buffer) {
+        let outcome = match waits {
+            true => self.receive_waiting(sleep, buffer),
+            false => self.receive(buffer),
+        };
+        match outcome {
             Ok(Some(count)) => {
-                self.let_others_come(began);
+                self.note_given(waits, began);
                 Ok(Some(count))
             }
             Ok(None) => Ok(None),
             Err(_) => {
                 // A receive that fails at once must not keep the processor busy.
-                thread::sleep(&self.clock, Duration::from_millis(WAIT));
+                if waits {
+                    thread::sleep(&self.clock, Duration::from_millis(PAUSE));
+                }
                 Err(self.fail())
             }
-        }
-    }
-
-    fn try_recv(&mut self, buffer: &mut [u8]) -> Result<Option<usize>, LinkFault>
-        ensures bound { IfOk result (λ found. IfSome found (λ count. count ≤ length buffer.new)) }
-        ensures rise { OnErr result (FailuresRose self.old.failures self.new.failures) }
-        ensures no_failure { OnOk result (self.new.failures ≡ self.old.failures) }
-        ensures spent { self.old.failures ≡ 2 ^ 64 - 1 → IsErr result }
-        ensures quiet { self.new.failed_sends ≡ self.old.failed_sends }
-    {
-        match self.receive(false, buffer) {
-            Ok(Some(count)) => {
-                self.given = self.given.saturating_add(1);
-                Ok(Some(count))
-            }
-            Ok(None) => Ok(None),
-            Err(_) => Err(self.fail()),
         }
     }
 
@@ -289,7 +333,7 @@ fn receiving_socket<N: Net>(net: &N, listen: &str) -> io::Result<UdpSocket> {
         return Err(io::Error::new(ErrorKind::InvalidInput, told));
     }
     let socket = UdpSocket::bind(net, listen)?;
-    socket.set_read_timeout(Some(Duration::from_millis(WAIT)))?;
+    socket.set_nonblocking(true)?;
     Ok(socket)
 }
 
@@ -301,8 +345,30 @@ fn first_address<N: Net>(net: &N, text: &str) -> io::Result<SocketAddr> {
     }
 }
 
-/// Whether a receive ended without a packet and without a fault: none had arrived within its wait, or a signal
-/// interrupted it.
+/// A descriptor that is waited for until it can be read.
+fn readable(fd: i32) -> pollfd {
+    pollfd {
+        fd,
+        events: POLLIN,
+        revents: 0,
+    }
+}
+
+/// A descriptor that is waited for until it can be written.
+fn writable(fd: i32) -> pollfd {
+    pollfd {
+        fd,
+        events: POLLOUT,
+        revents: 0,
+    }
+}
+
+/// Waits until one of these is ready or a signal comes, for at most this many milliseconds, or without an end if -1.
+fn wait_for_any(descriptors: &mut [pollfd], timeout: i32) {
+    let _ready = poll(descriptors, timeout);
+}
+
+/// Whether a receive ended without a packet and without a fault: none had arrived, or a signal interrupted it.
 fn is_silence(kind: ErrorKind) -> bool {
     matches!(
         kind,

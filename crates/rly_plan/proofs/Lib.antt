@@ -5,3 +5,4 @@ pub mod PassLemmas
 pub mod BlankTexts
 pub mod SoundPlans
 pub mod PathTests
+pub mod EdgeWaits

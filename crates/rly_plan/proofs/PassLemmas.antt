@@ -17,7 +17,7 @@ use Rattle.rly_plan.specs.HelpersContacts.{last_end}
 use Rattle.rly_plan_syntax.specs.Draft.{HopText, PlanText}
 use Rattle.rly_plan_syntax.specs.DocumentPaths.{unless}
 use Rattle.rly_plan.specs.KeyPaths.{first_adjacent, first_repeat, first_row}
-use Rattle.rly_plan.specs.Passes.{all_numbered, hop_in_range, is_in_range, is_station, neighbour_in_range, plan_of_draft, rate_in_range, resend_in_range, route_in_range, rows_in_range, is_between, number, contact_in_range, all_adjacent, are_apart, repeats, contact_from}
+use Rattle.rly_plan.specs.Passes.{all_numbered, hop_in_range, is_in_range, is_station, lead_in_range, neighbour_in_range, plan_of_draft, rate_in_range, resend_in_range, route_in_range, rows_in_range, is_between, number, contact_in_range, all_adjacent, are_apart, repeats, contact_from}
 
 abbrev pub none_of : (A : Type 0) → List A
 none_of A = []
@@ -192,15 +192,29 @@ repeat_after_front f count rest later x split within seen =
 
 -- ---- contacts in range
 
+-- each number of a hop in range is
+pub record HopParts (n : ℕ) (h : HopText) : Type 0 where
+  pub neighbour : neighbour_in_range n h.neighbour ≡ true
+  pub resend : resend_in_range h.resend ≡ true
+  pub rate : rate_in_range h.rate ≡ true
+  pub lead : lead_in_range h.lead ≡ true
+  pub count : nat_le (length h.contacts) MAX_CONTACTS ≡ true
+  pub contacts : list_all contact_in_range h.contacts ≡ true
+
+pub hop_parts : (n : ℕ) (h : HopText) → hop_in_range n h ≡ true → HopParts n h
+hop_parts n h ranged =
+    let (neighbour, timed) = and_parts (neighbour_in_range n h.neighbour) (resend_in_range h.resend && (rate_in_range h.rate && (lead_in_range h.lead && (nat_le (length h.contacts) MAX_CONTACTS && list_all contact_in_range h.contacts)))) ranged in
+    let (resend, paced) = and_parts (resend_in_range h.resend) (rate_in_range h.rate && (lead_in_range h.lead && (nat_le (length h.contacts) MAX_CONTACTS && list_all contact_in_range h.contacts))) timed in
+    let (rate, led) = and_parts (rate_in_range h.rate) (lead_in_range h.lead && (nat_le (length h.contacts) MAX_CONTACTS && list_all contact_in_range h.contacts)) paced in
+    let (lead, counted) = and_parts (lead_in_range h.lead) (nat_le (length h.contacts) MAX_CONTACTS && list_all contact_in_range h.contacts) led in
+    let (count, contacts) = and_parts (nat_le (length h.contacts) MAX_CONTACTS) (list_all contact_in_range h.contacts) counted in
+    record { neighbour = neighbour; resend = resend; rate = rate; lead = lead; count = count; contacts = contacts }
+
 numbered_contacts : (n : ℕ) (hs : List HopText) → all_numbered hop_in_range n hs ≡ true → list_all (λ h. list_all contact_in_range h.contacts) hs ≡ true
 numbered_contacts n [] ranged = refl
 numbered_contacts n (h ∷ hs) ranged =
     let (here, more) = and_parts (hop_in_range n h) (all_numbered hop_in_range (n + 1) hs) ranged in
-    let timed = and_parts (neighbour_in_range n h.neighbour) (resend_in_range h.resend && (rate_in_range h.rate && (nat_le (length h.contacts) MAX_CONTACTS && list_all contact_in_range h.contacts))) here in
-    let counted = and_parts (resend_in_range h.resend) (rate_in_range h.rate && (nat_le (length h.contacts) MAX_CONTACTS && list_all contact_in_range h.contacts)) timed.1 in
-    let paced = and_parts (rate_in_range h.rate) (nat_le (length h.contacts) MAX_CONTACTS && list_all contact_in_range h.contacts) counted.1 in
-    let contacts = and_parts (nat_le (length h.contacts) MAX_CONTACTS) (list_all contact_in_range h.contacts) paced.1 in
-    rw (contacts.1) (numbered_contacts (n + 1) hs more)
+    rw ((hop_parts n h here).contacts) (numbered_contacts (n + 1) hs more)
 
 -- in a plan in range each contact is
 pub contacts_in_range : (d : PlanText) → is_in_range d ≡ true → list_all (λ h. list_all contact_in_range h.contacts) d.hops ≡ true

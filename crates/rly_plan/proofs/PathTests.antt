@@ -14,7 +14,7 @@ use Rattle.rly_plan_syntax.specs.declared.key_path.PlanKey.TheVariants as key
 use Rattle.rly_plan_syntax.specs.DocumentPaths.{unless}
 use Rattle.rly_plan_syntax.specs.Draft.{HopText, PlanText}
 use Rattle.rly_plan_syntax.proofs.NoPath.{none_map, none_or, none_unless}
-use Rattle.rly_plan.specs.Passes.{all_adjacent, all_numbered, are_apart, begin_in_order, contact_in_range, hop_in_range, is_between, is_in_range, is_sorted, is_station, leads_to_hops, neighbour_in_range, rate_in_range, resend_in_range, route_in_range, rows_in_range}
+use Rattle.rly_plan.specs.Passes.{all_adjacent, all_numbered, are_apart, begin_in_order, contact_in_range, hop_in_range, is_between, is_in_range, is_sorted, is_station, lead_in_range, leads_to_hops, neighbour_in_range, rate_in_range, resend_in_range, route_in_range, rows_in_range}
 use Rattle.rly_plan.specs.KeyPaths.{apart_fault, first_adjacent, first_contact, first_row, hop_range_fault, lead_fault, lead_place, neighbour_range_fault, order_fault, range_place, route_range_fault, rows_range_fault, sorted_place}
 
 none_row : {A : Type 0} (fault : ℕ → A → Option Spot) (test : ℕ → A → Bool) → ((n : ℕ) (x : A) → is_none (fault n x) ≡ test n x)
@@ -49,8 +49,9 @@ none_hop id h =
     none_or _ _ _ _ (none_neighbour id h.neighbour)
     (none_or _ _ _ _ (none_unless (resend_in_range h.resend) (spot.At key.Resend))
     (none_or _ _ _ _ (none_unless (rate_in_range h.rate) (spot.At key.Rate))
+    (none_or _ _ _ _ (none_unless (lead_in_range h.lead) (spot.At key.Lead))
     (none_or _ _ _ _ (none_unless (nat_le (length h.contacts) MAX_CONTACTS) (spot.At key.Contacts))
-    (none_contact contact_in_range 1 h.contacts))))
+    (none_contact contact_in_range 1 h.contacts)))))
 
 none_route : (n : ℕ) (r : RouteDraft) → is_none (route_range_fault n r) ≡ route_in_range r
 none_route n r =

@@ -17,7 +17,7 @@ use Rattle.rly_plan_syntax.specs.Draft.{HopText, PlanText, draft_of}
 use Rattle.rly_plan_syntax.specs.Keys.{keys_are_known}
 use Rattle.rly_plan.specs.Passes.{all_adjacent, all_numbered, are_apart, contact_from, contact_in_range, hop_from, hop_in_range, is_between, is_in_range, is_sorted, is_station, leads_to_hops, neighbour_from, neighbour_in_range, number, number_16, number_32, overlaps, plan_from, plan_of_text, plan_of_document, plan_of_draft, rate_in_range, repeats, resend_in_range, route_from, route_in_range, rows_in_range}
 use Rattle.rly_plan.specs.Sound.{IsStationNumber, AreInOrder, IsSoundPlan}
-use Rattle.rly_plan.proofs.PassLemmas.{between_bounds, contact_bounds}
+use Rattle.rly_plan.proofs.PassLemmas.{between_bounds, contact_bounds, hop_parts}
 
 -- ---- a draft that passed
 
@@ -96,19 +96,20 @@ sixteen low high z fits h = rw (held 65535 low high z fits h) (between_bounds lo
 
 resend_sound : (n : ℕ) (h : HopText) → hop_in_range n h ≡ true → IsIn MIN_RESEND MAX_RESEND (number_32 h.resend)
 resend_sound n h ranged =
-    let rest = and_parts (neighbour_in_range n h.neighbour) (resend_in_range h.resend && (rate_in_range h.rate && (nat_le (length h.contacts) MAX_CONTACTS && list_all contact_in_range h.contacts))) ranged in
-    let within = and_parts (resend_in_range h.resend) (rate_in_range h.rate && (nat_le (length h.contacts) MAX_CONTACTS && list_all contact_in_range h.contacts)) rest.1 in
-    rw (held 4294967295 MIN_RESEND MAX_RESEND h.resend (omega arith) within.0) (between_bounds MIN_RESEND MAX_RESEND h.resend within.0)
+    let within = (hop_parts n h ranged).resend in
+    rw (held 4294967295 MIN_RESEND MAX_RESEND h.resend (omega arith) within) (between_bounds MIN_RESEND MAX_RESEND h.resend within)
 
 rate_bounds : (rate : Option ℤ) → rate_in_range rate ≡ true → IfSome (option_map number_32 rate) (IsIn 1 1000000000)
 rate_bounds None ranged = tt
 rate_bounds (Some z) ranged = rw (held 4294967295 1 1000000000 z (omega arith) ranged) (between_bounds 1 1000000000 z ranged)
 
 rate_sound : (n : ℕ) (h : HopText) → hop_in_range n h ≡ true → IfSome (option_map number_32 h.rate) (IsIn 1 1000000000)
-rate_sound n h ranged =
-    let rest = and_parts (neighbour_in_range n h.neighbour) (resend_in_range h.resend && (rate_in_range h.rate && (nat_le (length h.contacts) MAX_CONTACTS && list_all contact_in_range h.contacts))) ranged in
-    let timed = and_parts (resend_in_range h.resend) (rate_in_range h.rate && (nat_le (length h.contacts) MAX_CONTACTS && list_all contact_in_range h.contacts)) rest.1 in
-    rate_bounds h.rate (and_parts (rate_in_range h.rate) (nat_le (length h.contacts) MAX_CONTACTS && list_all contact_in_range h.contacts) timed.1).0
+rate_sound n h ranged = rate_bounds h.rate (hop_parts n h ranged).rate
+
+lead_sound : (n : ℕ) (h : HopText) → hop_in_range n h ≡ true → number_32 h.lead ≤ 86400
+lead_sound n h ranged =
+    let within = (hop_parts n h ranged).lead in
+    rw (held 4294967295 0 86400 h.lead (omega arith) within) (between_bounds 0 86400 h.lead within).1
 
 neighbour_sound : (n : ℕ) (p : NeighbourDraft) → neighbour_in_range n p ≡ true → IsStationNumber (number_16 p.station)
 neighbour_sound n p h = sixteen 1 65535 p.station (omega arith) (and_parts (is_between n n p.id) (is_station p.station) h).1
@@ -148,15 +149,12 @@ pairs_apart (x ∷ ds) ranged apart (suc i) (suc j) d order within =
 
 hop_sound : (n : ℕ) (h : HopText) → hop_in_range n h ≡ true → all_adjacent are_apart h.contacts ≡ true → IsStationNumber (number_16 h.neighbour.station) × AreInOrder (map contact_from h.contacts)
 hop_sound n h ranged apart =
-    let (neighbour, timed) = and_parts (neighbour_in_range n h.neighbour) (resend_in_range h.resend && (rate_in_range h.rate && (nat_le (length h.contacts) MAX_CONTACTS && list_all contact_in_range h.contacts))) ranged in
-    let (within, paced) = and_parts (resend_in_range h.resend) (rate_in_range h.rate && (nat_le (length h.contacts) MAX_CONTACTS && list_all contact_in_range h.contacts)) timed in
-    let (kept, rest) = and_parts (rate_in_range h.rate) (nat_le (length h.contacts) MAX_CONTACTS && list_all contact_in_range h.contacts) paced in
-    let (counted, lasting) = and_parts (nat_le (length h.contacts) MAX_CONTACTS) (list_all contact_in_range h.contacts) rest in (
-      neighbour_sound n h.neighbour neighbour,
+    let parts = hop_parts n h ranged in (
+      neighbour_sound n h.neighbour parts.neighbour,
       record {
-        count = rw (length_of_map contact_from h.contacts) (leb-true (length h.contacts) MAX_CONTACTS counted);
-        lasting = all_map contact_in_range contact_from (λ c. (c.begin < c.end) × (c.end < MOMENT_LIMIT)) contact_bounds h.contacts lasting;
-        apart = pairs_apart h.contacts lasting apart;
+        count = rw (length_of_map contact_from h.contacts) (leb-true (length h.contacts) MAX_CONTACTS parts.count);
+        lasting = all_map contact_in_range contact_from (λ c. (c.begin < c.end) × (c.end < MOMENT_LIMIT)) contact_bounds h.contacts parts.contacts;
+        apart = pairs_apart h.contacts parts.contacts apart;
       },
     )
 
@@ -195,6 +193,7 @@ draft_sound d ranged apart leads =
       hops = hops_sound 1 d.hops hops.1 (not-false (list_all (λ h. all_adjacent are_apart h.contacts) d.hops) contacts);
       resends = numbered_map hop_in_range hop_from (λ h. IsIn MIN_RESEND MAX_RESEND h.resend) resend_sound 1 d.hops hops.1;
       rates = numbered_map hop_in_range hop_from (λ h. IfSome h.rate (IsIn 1 1000000000)) rate_sound 1 d.hops hops.1;
+      leads = numbered_map hop_in_range hop_from (λ h. h.lead ≤ 86400) lead_sound 1 d.hops hops.1;
       routes = rw hop_count (routes_sound (length d.hops) d.routes (omega (arith, hops.0, hop_count)) in_routes leads);
       one_peer_a_station = distinct_map (λ p. number_16 p.station) neighbour_from (λ p. p.station) (λ p. refl) d.peers peers_once;
       one_hop_a_station = distinct_map (λ h. number_16 h.neighbour.station) hop_from (λ h. h.neighbour.station) (λ h. refl) d.hops hops_once;

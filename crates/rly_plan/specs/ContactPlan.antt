@@ -1,5 +1,6 @@
 -- The model of a plan, and its readers.
-use Rattle.std.specs.Prelude.{ℕ, zero, suc, ◌==◌, Bool, List, [], Option, None, option_map, unwrap_or, find, slice_get}
+use Rattle.std.specs.Prelude.{ℕ, zero, suc, ◌-◌, ◌/◌, ◌==◌, nat_le, if◌then◌else◌, Bool, List, [], Option, None, option_map}
+use Rattle.std.specs.Prelude.{unwrap_or, find, slice_get}
 use Rattle.rly_core.specs.declared.ids.HopId.{HopId}
 use Rattle.rly_core.specs.declared.ids.PeerId.{PeerId}
 use Rattle.rly_core.specs.declared.limits.TheConstants.{DEFAULT_RESEND, MOMENT_LIMIT}
@@ -36,6 +37,10 @@ resend plan hop = unwrap_or (option_map (λ h. h.resend) (at_number plan.hops ho
 abbrev pub rate : ContactPlan → HopId → Option ℕ
 rate plan hop = unwrap_or (option_map (λ h. h.rate) (at_number plan.hops hop.0)) None
 
+-- how long before an opening of the hop's link it is announced, in seconds: 0 for a hop that doesn't exist
+abbrev pub lead : ContactPlan → HopId → ℕ
+lead plan hop = unwrap_or (option_map (λ h. h.lead) (at_number plan.hops hop.0)) 0
+
 -- the contacts of a hop: none for a hop that doesn't exist
 abbrev pub contacts_of : ContactPlan → HopId → List Contact
 contacts_of plan hop = unwrap_or (option_map (λ h. h.contacts) (at_number plan.hops hop.0)) []
@@ -51,6 +56,15 @@ link plan hop moment = open_moments (contacts_of plan hop) moment
 -- the next opening or closing of the hop's link
 abbrev pub next_change : ContactPlan → HopId → ℕ → Option ℕ
 next_change plan hop moment = change_after (contacts_of plan hop) moment
+
+-- how much of a time that is left on the wall clock may be slept, in microseconds: all of at most 100 ms, else half,
+-- so that a clock that is slewed is followed
+abbrev pub sleep_of : ℕ → ℕ
+sleep_of left = if nat_le left 100000 then left else left / 2
+
+-- how long may be slept at a moment before the clock is looked at again for the next change
+abbrev pub edge_wait : ContactPlan → HopId → ℕ → Option ℕ
+edge_wait plan hop now = option_map (λ change. sleep_of (change - now)) (next_change plan hop now)
 
 -- the open time of the hop's link in all its contacts: its clock after the last possible moment of a contact
 abbrev pub open_time : ContactPlan → HopId → ℕ

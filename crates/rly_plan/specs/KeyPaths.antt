@@ -22,7 +22,7 @@ use Rattle.rly_plan_syntax.specs.DocumentPaths.{missing_place, position_after, u
 use Rattle.rly_plan_syntax.specs.Draft.{HopText, PlanText, draft_of}
 use Rattle.rly_plan_syntax.specs.Keys.{keys_are_known}
 use Rattle.rly_plan.specs.Passes.{are_apart, begin_in_order, contact_in_range, is_between, is_in_range, is_sorted}
-use Rattle.rly_plan.specs.Passes.{is_station, number_16, overlaps, rate_in_range, resend_in_range}
+use Rattle.rly_plan.specs.Passes.{is_station, lead_in_range, number_16, overlaps, rate_in_range, resend_in_range}
 
 -- the first row that has a fault, and where in it: rows count from n
 abbrev pub first_row : {A : Type 0} → (ℕ → A → Option Spot) → Row → ℕ → List A → Option KeyPath
@@ -45,8 +45,9 @@ hop_range_fault id h =
     option_or (neighbour_range_fault id h.neighbour)
     (option_or (unless (resend_in_range h.resend) (spot.At key.Resend))
     (option_or (unless (rate_in_range h.rate) (spot.At key.Rate))
+    (option_or (unless (lead_in_range h.lead) (spot.At key.Lead))
     (option_or (unless (nat_le (length h.contacts) MAX_CONTACTS) (spot.At key.Contacts))
-    (first_contact contact_in_range 1 h.contacts))))
+    (first_contact contact_in_range 1 h.contacts)))))
 
 abbrev pub route_range_fault : ℕ → RouteDraft → Option Spot
 route_range_fault n r =

@@ -62,12 +62,17 @@ abbrev pub rate_in_range : Option ℤ → Bool
 rate_in_range None = true
 rate_in_range (Some z) = is_between 1 1000000000 z
 
+-- seconds
+abbrev pub lead_in_range : ℤ → Bool
+lead_in_range z = is_between 0 86400 z
+
 abbrev pub hop_in_range : ℕ → HopText → Bool
 hop_in_range id h =
     neighbour_in_range id h.neighbour
     && (resend_in_range h.resend
     && (rate_in_range h.rate
-    && (nat_le (length h.contacts) MAX_CONTACTS && list_all contact_in_range h.contacts)))
+    && (lead_in_range h.lead
+    && (nat_le (length h.contacts) MAX_CONTACTS && list_all contact_in_range h.contacts))))
 
 abbrev pub route_in_range : RouteDraft → Bool
 route_in_range r = is_station r.destination && is_between 1 MAX_HOPS r.hop
@@ -136,6 +141,7 @@ hop_from h = record {
   neighbour = neighbour_from h.neighbour;
   resend = number_32 h.resend;
   rate = option_map number_32 h.rate;
+  lead = number_32 h.lead;
   contacts = map contact_from h.contacts;
 }
 

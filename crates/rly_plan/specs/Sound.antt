@@ -25,6 +25,7 @@ pub record IsSoundPlan (plan : ContactPlan) : Type 0 where
   pub hops : All (λ h. IsStationNumber h.neighbour.station × AreInOrder h.contacts) plan.hops
   pub resends : All (λ h. IsIn MIN_RESEND MAX_RESEND h.resend) plan.hops
   pub rates : All (λ h. IfSome h.rate (IsIn 1 1000000000)) plan.hops
+  pub leads : All (λ h. h.lead ≤ 86400) plan.hops
   pub routes : All (λ r. IsStationNumber r.destination × IsIn 1 (length plan.hops) r.hop.0) plan.routes
   pub one_peer_a_station : AllPairs (λ p q. p.station ≢ q.station) plan.peers
   pub one_hop_a_station : AllPairs (λ h k. h.neighbour.station ≢ k.neighbour.station) plan.hops

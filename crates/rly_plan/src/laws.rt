@@ -1,9 +1,9 @@
 //! Laws of plans and of the link clock, each on a function without a body.
 
-ghost use Rattle.std.specs.Prelude.{◌≡◌, ℕ, List, Ok, ◌+◌, ◌-◌, ◌<◌, ◌≤◌, false, true};
+ghost use Rattle.std.specs.Prelude.{◌≡◌, ℕ, is_some, List, Ok, Some, ◌+◌, ◌-◌, ◌<◌, ◌≤◌, false, true};
 ghost use Rattle.rly_core.specs.declared.ids.HopId.{HopId as AHop};
 ghost use Rattle.rly_plan.specs.Changes.{IsNextChange};
-ghost use Rattle.rly_plan.specs.ContactPlan.{ContactPlan, is_open, link, next_change};
+ghost use Rattle.rly_plan.specs.ContactPlan.{ContactPlan, edge_wait, is_open, link, next_change};
 ghost use Rattle.rly_plan.specs.Passes.{plan_of_text};
 ghost use Rattle.rly_plan.specs.Sound.{IsSoundPlan};
 
@@ -41,6 +41,15 @@ pub fn law_link_runs_while_open(plan: &Plan, hop: HopId, earlier: u64, later: u6
 pub fn law_next_change()
     ensures { (plan : ContactPlan) (hop : AHop) (moment : ℕ) → IsSoundPlan plan
         → IsNextChange (is_open plan hop) moment (next_change plan hop moment) }
+{}
+
+/// In a sound plan, a hop's link keeps its state while a sleeper sleeps for `edge_wait`, and it sleeps at least a microsecond.
+/// There is no such time exactly if there is no next change.
+pub fn law_edge_wait()
+    ensures keeps { (plan : ContactPlan) (hop : AHop) (now wait : ℕ) → IsSoundPlan plan → edge_wait plan hop now ≡ Some wait
+        → (0 < wait) × ((u : ℕ) → now ≤ u → u < now + wait → is_open plan hop u ≡ is_open plan hop now) }
+    ensures none { (plan : ContactPlan) (hop : AHop) (now : ℕ) →
+        is_some (edge_wait plan hop now) ≡ is_some (next_change plan hop now) }
 {}
 
 /// Every plan is sound: its numbers are in range, its contacts in order and disjoint, its stations and destinations

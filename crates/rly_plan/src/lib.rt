@@ -14,7 +14,7 @@ mod plan;
 mod plan_fault;
 
 pub use crate::laws::{
-    law_link_grows_with_time, law_link_never_falls, law_link_runs_while_open,
+    law_edge_wait, law_link_grows_with_time, law_link_never_falls, law_link_runs_while_open,
     law_link_stands_while_closed, law_next_change, law_plan_is_sound,
 };
 pub use crate::neighbour::Neighbour;

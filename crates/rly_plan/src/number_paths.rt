@@ -7,8 +7,8 @@ ghost use Rattle.rly_plan.specs.KeyPaths.{overlap_place, range_place, repeat_pla
 ghost use Rattle.rly_plan.specs.Passes.{all_adjacent, are_apart, contact_in_range};
 
 use crate::passes::{
-    contact_in_range, contact_of_draft, is_between, is_station, number_16, rate_in_range,
-    resend_in_range,
+    contact_in_range, contact_of_draft, is_between, is_station, lead_in_range, number_16,
+    rate_in_range, resend_in_range,
 };
 use rly_core::limits::{MAX_CONTACTS, MAX_HOPS, MAX_PEERS};
 use rly_plan_syntax::{
@@ -94,6 +94,9 @@ impl Test<HopDraft> for InRange {
         }
         if !rate_in_range(row.rate) {
             return Some(Spot::At(PlanKey::Rate));
+        }
+        if !lead_in_range(row.lead) {
+            return Some(Spot::At(PlanKey::Lead));
         }
         if row.contacts.len() as u64 > MAX_CONTACTS {
             return Some(Spot::At(PlanKey::Contacts));

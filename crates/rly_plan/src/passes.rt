@@ -3,8 +3,8 @@
 
 ghost use Rattle.std.specs.Prelude.{◌≡◌, ◌<◌, ◌^◌, ℕ, false, IfOk, map, slice_index_or, vec_len};
 ghost use Rattle.rly_plan.specs.Passes.{contact_from, contact_in_range, is_between, is_in_range, is_sorted, is_station};
-ghost use Rattle.rly_plan.specs.Passes.{leads_to_hops, number, number_16, number_32, overlaps, rate_in_range, repeats};
-ghost use Rattle.rly_plan.specs.Passes.{resend_in_range};
+ghost use Rattle.rly_plan.specs.Passes.{lead_in_range, leads_to_hops, number, number_16, number_32, overlaps, rate_in_range};
+ghost use Rattle.rly_plan.specs.Passes.{repeats, resend_in_range};
 
 use crate::contacts::Contact;
 use crate::number_paths::{Numbered, are_apart, lead_place, range_place, sorted_place};
@@ -14,6 +14,9 @@ use std::alloc::{AllocError, Global};
 
 /// The greatest `rate` of a hop, in bytes a second. The least is 1.
 const MAX_RATE: u64 = 1_000_000_000;
+
+/// The greatest `lead` of a hop, in seconds: a day.
+const MAX_LEAD: u64 = 86_400;
 
 /// Pass 4: whether each number is in its range.
 pub(crate) fn is_in_range(draft: &PlanDraft) -> bool
@@ -79,6 +82,12 @@ pub(crate) fn rate_in_range(rate: Option<i64>) -> bool
         Some(rate) => is_between(rate, 1, MAX_RATE),
         None => true,
     }
+}
+
+pub(crate) fn lead_in_range(lead: i64) -> bool
+    ensures { result ≡ lead_in_range lead }
+{
+    is_between(lead, 0, MAX_LEAD)
 }
 
 pub(crate) fn contact_in_range(contact: &ContactDraft) -> bool

@@ -3,7 +3,7 @@ ghost use Rattle.std.specs.Prelude.{Some, true};
 ghost use Rattle.toml.specs.Errors.{IsMemory, IsWithin};
 ghost use Rattle.rly_plan.specs.KeyPaths.{IsFaultPlace, place_of_draft};
 ghost use Rattle.std.specs.List.{list_all};
-ghost use Rattle.rly_plan.specs.ContactPlan.{at_number};
+ghost use Rattle.rly_plan.specs.ContactPlan.{at_number, sleep_of};
 ghost use Rattle.rly_plan.specs.Passes.{all_adjacent, are_apart, contact_from, contact_in_range, hop_from};
 ghost use Rattle.rly_plan.specs.Passes.{neighbour_from, plan_from, plan_of_draft, route_from};
 
@@ -24,7 +24,7 @@ use std::alloc::{AllocError, Global};
 use std::marker::Model;
 use toml::de::Error;
 
-/// A next hop: the neighbour, its retransmission timeout, its rate, and the contacts of its link.
+/// A next hop: the neighbour, its retransmission timeout, its rate, and the contacts of its link, with their lead.
 #[derive(Drop)]
 pub struct NextHop {
     /// The neighbour that the hop leads to.
@@ -33,6 +33,8 @@ pub struct NextHop {
     pub resend: u32,
     /// Maximum rate in bytes a second, 1 to 10^9; `None`: unlimited.
     pub rate: Option<u32>,
+    /// How long before an opening it is announced, in seconds, up to 86,400.
+    pub lead: u32,
     /// The times in which the link is open.
     pub(crate) contacts: Contacts,
 }
@@ -103,7 +105,7 @@ impl Model for Plan {
 impl Plan {
     ghost use Rattle.std.specs.Prelude.{◌≡◌, ◌≢◌, ◌<◌, length, IfErr, IfOk, IfSome, None, Ok, Err, option_copied};
     ghost use Rattle.rly_plan.specs.ContactPlan.{hop_for, is_open, link, next_change, next_hop_at, open_time, peer_at};
-    ghost use Rattle.rly_plan.specs.ContactPlan.{rate, resend};
+    ghost use Rattle.rly_plan.specs.ContactPlan.{edge_wait, lead, rate, resend};
     ghost use Rattle.rly_plan.specs.Passes.{plan_of_text};
     ghost use Rattle.rly_plan.specs.KeyPaths.{IsPlaceOf};
     ghost use Rattle.toml.specs.Errors.{IsBlank};
@@ -226,6 +228,17 @@ impl Plan {
         }
     }
 
+    /// How long before an opening of a hop's link it is announced, in seconds, up to 86,400: 0 if it isn't, and for a hop
+    /// that doesn't exist.
+    pub fn lead(&self, hop: HopId) -> u32
+        ensures { result ≡ lead self.now hop }
+    {
+        match at_number(&self.hops, hop.0) {
+            Some(hop) => hop.lead,
+            None => 0,
+        }
+    }
+
     /// The next hop of the datagrams for a destination.
     pub fn hop_for(&self, destination: u16) -> Option<HopId>
         ensures { result ≡ hop_for self.now destination }
@@ -271,12 +284,32 @@ impl Plan {
         }
     }
 
+    /// How many microseconds may be slept at this moment of the wall clock before it is looked at again for the next
+    /// change of a hop's link: all that is left until it if that is 100 ms at most, else half of it, so that a clock
+    /// that is slewed is followed. `None` if there is no change.
+    pub fn edge_wait(&self, hop: HopId, now: u64) -> Option<u64>
+        ensures { result ≡ edge_wait self.now hop now }
+    {
+        let change = self.next_change(hop, now)?;
+        Some(sleep_of(change.saturating_sub(now)))
+    }
+
     /// The open time of a hop's link in all its contacts, in microseconds: 0 for a hop that doesn't exist.
     pub fn open_time(&self, hop: HopId) -> u64
         ensures { result ≡ open_time self.now hop }
     {
         self.link(hop, MOMENT_LIMIT)
     }
+}
+
+/// The longest time until a change of a link that is slept whole, in microseconds.
+const WHOLE_SLEEP: u64 = 100_000;
+
+/// How much of a time that is left on the wall clock may be slept.
+fn sleep_of(left: u64) -> u64
+    ensures { result ≡ sleep_of left }
+{
+    if left <= WHOLE_SLEEP { left } else { left / 2 }
 }
 
 /// The element of this number, counting from 1.
@@ -433,12 +466,14 @@ fn hop_of_draft(alloc: Global, draft: HopDraft) -> Result<NextHop, AllocError>
         neighbour,
         resend,
         rate,
+        lead,
         contacts,
     } = draft;
     Ok(NextHop {
         neighbour: neighbour_of_draft(neighbour),
         resend: number_32(resend),
         rate: rate.map(number_32),
+        lead: number_32(lead),
         contacts: contacts_of_draft(alloc, &contacts)?,
     })
 }

@@ -1,6 +1,7 @@
 -- The text of a plan at a moment (docs/COMMANDS.md, "rly plan"): the moment and the station, and then each peer,
 -- each hop and each route.
-use Rattle.std.specs.Prelude.{ℕ, Bool, true, false, List, [], ◌∷◌, ◌++◌, codes, length, Option, Some, None}
+use Rattle.std.specs.Prelude.{ℕ, ◌==◌, Bool, true, false, List, [], ◌∷◌, ◌++◌, codes, length, Option, Some, None}
+use Rattle.std.specs.Prelude.{if◌then◌else◌}
 use Rattle.std.specs.Fmt.{decimal}
 use Rattle.std.specs.List.{enumerate_from, flat_map}
 use Rattle.rly_core.specs.declared.limits.TheConstants.{MOMENT_LIMIT}
@@ -58,11 +59,19 @@ abbrev pub rate_text : Option ℕ → List ℕ
 rate_text None = []
 rate_text (Some rate) = codes " rate " ++ decimal rate
 
--- hop H resend R rate B contacts N open T: milliseconds, bytes a second, the number of contacts, and the
--- microseconds in all of them
+-- the seconds by which openings are announced, unless it is 0
+abbrev pub lead_text : ℕ → List ℕ
+lead_text lead = if lead == 0 then [] else codes " lead " ++ decimal lead
+
+-- both, where there are any
+abbrev pub bounds_text : NextHop → List ℕ
+bounds_text hop = rate_text hop.rate ++ lead_text hop.lead
+
+-- hop H resend R rate B lead L contacts N open T: milliseconds, bytes a second, seconds, the number of contacts, and
+-- the microseconds in all of them
 abbrev pub times_line : ℕ × NextHop → List ℕ
 times_line (id, hop) =
-    codes "hop " ++ decimal id ++ codes " resend " ++ decimal hop.resend ++ rate_text hop.rate
+    codes "hop " ++ decimal id ++ codes " resend " ++ decimal hop.resend ++ bounds_text hop
     ++ codes " contacts " ++ decimal (length hop.contacts)
     ++ codes " open " ++ decimal (open_moments hop.contacts MOMENT_LIMIT) ++ 10 ∷ []
 

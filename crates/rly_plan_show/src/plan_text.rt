@@ -1,6 +1,6 @@
 ghost use Rattle.std.specs.Prelude.{◌≡◌, ◌<◌, ◌++◌, IfOk, IfSome, OnOk, option_copied, string_bytes};
-ghost use Rattle.rly_plan_show.specs.PlanText.{at_line, hop_line, hop_lines, hops_text, neighbour_text, peer_line};
-ghost use Rattle.rly_plan_show.specs.PlanText.{peers_text, rate_text, route_line, routes_text, state_line, state_text};
+ghost use Rattle.rly_plan_show.specs.PlanText.{at_line, bounds_text, hop_line, hop_lines, hops_text, lead_text, neighbour_text};
+ghost use Rattle.rly_plan_show.specs.PlanText.{peer_line, peers_text, rate_text, route_line, routes_text, state_line, state_text};
 ghost use Rattle.rly_plan_show.specs.PlanText.{station_line, text_for_plan, times_line, until_text};
 
 use crate::utc::Utc;
@@ -99,7 +99,7 @@ fn write_link(text: &mut String, number: u64, hop: &NextHop) -> Result<(), Alloc
     write_neighbour(text, &hop.neighbour)
 }
 
-/// Appends a hop's timeout, rate, number of contacts, and open time.
+/// Appends a hop's timeout, rate, lead, number of contacts, and open time.
 fn write_times(text: &mut String, number: u64, hop: &NextHop) -> Result<(), AllocError>
     ensures { OnOk result (string_bytes text.new ≡ string_bytes text.old ++ times_line (number, hop.now)) }
 {
@@ -107,9 +107,17 @@ fn write_times(text: &mut String, number: u64, hop: &NextHop) -> Result<(), Allo
     let contacts = hop.contact_count();
     let open = hop.open_time();
     write!(text, "hop {number} resend {resend}")?;
-    write_rate(text, hop.rate)?;
+    write_bounds(text, hop)?;
     writeln!(text, " contacts {contacts} open {open}")?;
     Ok(())
+}
+
+/// Appends a hop's rate and its lead, if it has them.
+fn write_bounds(text: &mut String, hop: &NextHop) -> Result<(), AllocError>
+    ensures { OnOk result (string_bytes text.new ≡ string_bytes text.old ++ bounds_text hop.now) }
+{
+    write_rate(text, hop.rate)?;
+    write_lead(text, hop.lead)
 }
 
 /// Appends a hop's rate, if it has one.
@@ -118,6 +126,16 @@ fn write_rate(text: &mut String, rate: Option<u32>) -> Result<(), AllocError>
 {
     if let Some(rate) = rate {
         write!(text, " rate {rate}")?;
+    }
+    Ok(())
+}
+
+/// Appends a hop's lead, if it has one.
+fn write_lead(text: &mut String, lead: u32) -> Result<(), AllocError>
+    ensures { OnOk result (string_bytes text.new ≡ string_bytes text.old ++ lead_text lead) }
+{
+    if lead != 0 {
+        write!(text, " lead {lead}")?;
     }
     Ok(())
 }

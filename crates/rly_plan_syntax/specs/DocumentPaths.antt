@@ -13,7 +13,7 @@ use Rattle.rly_plan_syntax.specs.declared.key_path.Row.{Row}
 use Rattle.rly_plan_syntax.specs.declared.key_path.Row.TheVariants as row
 use Rattle.rly_plan_syntax.specs.declared.key_path.Spot.{Spot}
 use Rattle.rly_plan_syntax.specs.declared.key_path.Spot.TheVariants as spot
-use Rattle.rly_plan_syntax.specs.Draft.{contact_draft_of, integer_at, key_at, rate_at, resend_at, text_at}
+use Rattle.rly_plan_syntax.specs.Draft.{contact_draft_of, integer_at, key_at, lead_at, rate_at, resend_at, text_at}
 use Rattle.rly_plan_syntax.specs.Keys.{has_key, has_no_key}
 
 -- the location, unless the test passes
@@ -53,6 +53,7 @@ spot_named name =
     else if bytes_eq name (codes "key") then spot.At key.Key
     else if bytes_eq name (codes "resend") then spot.At key.Resend
     else if bytes_eq name (codes "rate") then spot.At key.Rate
+    else if bytes_eq name (codes "lead") then spot.At key.Lead
     else if bytes_eq name (codes "contacts") then spot.At key.Contacts
     else if bytes_eq name (codes "destination") then spot.At key.Destination
     else if bytes_eq name (codes "hop") then spot.At key.Hop
@@ -115,7 +116,8 @@ hop_lacks ms =
     option_or (neighbour_lacks ms)
     (option_or (unless (is_some (resend_at (get_member (codes "resend") ms))) (spot.At key.Resend))
     (option_or (unless (is_some (rate_at (get_member (codes "rate") ms))) (spot.At key.Rate))
-    (contacts_lack (get_member (codes "contacts") ms))))
+    (option_or (unless (is_some (lead_at (get_member (codes "lead") ms))) (spot.At key.Lead))
+    (contacts_lack (get_member (codes "contacts") ms)))))
 
 abbrev pub route_lacks : Members → Option Spot
 route_lacks ms =

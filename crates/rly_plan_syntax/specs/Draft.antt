@@ -11,6 +11,7 @@ pub record HopText : Type 0 where
   pub neighbour : NeighbourDraft
   pub resend : ℤ
   pub rate : Option ℤ
+  pub lead : ℤ
   pub contacts : List ContactDraft
 
 -- a whole plan
@@ -85,13 +86,19 @@ rate_at (Some value) = do
   rate ← as_integer value
   Some (Some rate)
 
+-- `lead` (optional)
+abbrev pub lead_at : Option Data → Option ℤ
+lead_at None = Some (pos 0)
+lead_at (Some value) = as_integer value
+
 abbrev pub hop_in : Members → Option HopText
 hop_in ms = do
   neighbour ← neighbour_of ms
   resend ← resend_at (get_member (codes "resend") ms)
   rate ← rate_at (get_member (codes "rate") ms)
+  lead ← lead_at (get_member (codes "lead") ms)
   contacts ← items_at contact_draft_of (get_member (codes "contacts") ms)
-  Some (record { neighbour = neighbour; resend = resend; rate = rate; contacts = contacts })
+  Some (record { neighbour = neighbour; resend = resend; rate = rate; lead = lead; contacts = contacts })
 
 abbrev pub hop_draft_of : Data → Option HopText
 hop_draft_of value = as_table value >>= hop_in

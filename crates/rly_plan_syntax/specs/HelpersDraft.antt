@@ -3,7 +3,7 @@ use Rattle.std.specs.Prelude.{ℕ, ℤ, List, codes, Option, Some, option_and_th
 use Rattle.toml.specs.Data.{Data, as_integer, Members, get_member}
 use Rattle.rly_plan_syntax.specs.declared.draft.ContactDraft.{ContactDraft}
 use Rattle.rly_plan_syntax.specs.declared.draft.NeighbourDraft.{NeighbourDraft}
-use Rattle.rly_plan_syntax.specs.Draft.{contact_draft_of, items_at, rate_at, resend_at}
+use Rattle.rly_plan_syntax.specs.Draft.{contact_draft_of, items_at, lead_at, rate_at, resend_at}
 
 infixl 10 ◌>>=◌
 abbrev ◌>>=◌ : {A B : Type 0} → Option A → (A → Option B) → Option B
@@ -22,14 +22,15 @@ neighbour_text id station listen remote key =
 
 -- the fields of a [[hop]] table apart from its neighbour
 abbrev pub LinkText : Type 0
-LinkText = ℤ × Option ℤ × List ContactDraft
+LinkText = ℤ × Option ℤ × ℤ × List ContactDraft
 
-abbrev pub link_text : ℤ → Option ℤ → List ContactDraft → LinkText
-link_text resend rate contacts = (resend, rate, contacts)
+abbrev pub link_text : ℤ → Option ℤ → ℤ → List ContactDraft → LinkText
+link_text resend rate lead contacts = (resend, rate, lead, contacts)
 
 abbrev pub link_in : Members → Option LinkText
 link_in ms = do
   resend ← resend_at (get_member (codes "resend") ms)
   rate ← rate_at (get_member (codes "rate") ms)
+  lead ← lead_at (get_member (codes "lead") ms)
   contacts ← items_at contact_draft_of (get_member (codes "contacts") ms)
-  Some (link_text resend rate contacts)
+  Some (link_text resend rate lead contacts)

@@ -10,7 +10,7 @@ use Rattle.rly_plan_syntax.specs.declared.key_path.Row.TheVariants.{Peer, Hop, R
 abbrev pub keys_of : Row → List (List ℕ)
 keys_of Peer = codes "id" ∷ codes "station" ∷ codes "listen" ∷ codes "remote" ∷ codes "key" ∷ []
 keys_of Hop = codes "id" ∷ codes "station" ∷ codes "listen" ∷ codes "remote" ∷ codes "key"
-    ∷ codes "resend" ∷ codes "rate" ∷ codes "contacts" ∷ []
+    ∷ codes "resend" ∷ codes "rate" ∷ codes "lead" ∷ codes "contacts" ∷ []
 keys_of Route = codes "destination" ∷ codes "hop" ∷ []
 
 abbrev pub has_key : Row → List ℕ → Bool

@@ -8,7 +8,9 @@ ghost use Rattle.rly_plan_syntax.specs.DocumentPaths.{missing_place, neighbour_l
 ghost use Rattle.rly_plan_syntax.specs.DocumentPaths.{row_unknown, rows_lack, rows_unknown, spot_named, table_lacks};
 ghost use Rattle.rly_plan_syntax.specs.DocumentPaths.{unknown_place, value_unknown};
 
-use crate::draft::{integer, read_contact, read_key, read_rate, read_resend, text, value_at};
+use crate::draft::{
+    integer, read_contact, read_key, read_lead, read_rate, read_resend, text, value_at,
+};
 use crate::key_path::{KeyPath, PlanKey, Row, Spot};
 use crate::keys::has_no_key;
 use toml::value::Array;
@@ -85,6 +87,7 @@ fn spot_named(name: &str) -> Spot
         "key" => Spot::At(PlanKey::Key),
         "resend" => Spot::At(PlanKey::Resend),
         "rate" => Spot::At(PlanKey::Rate),
+        "lead" => Spot::At(PlanKey::Lead),
         "contacts" => Spot::At(PlanKey::Contacts),
         "destination" => Spot::At(PlanKey::Destination),
         "hop" => Spot::At(PlanKey::Hop),
@@ -182,6 +185,9 @@ fn hop_lacks(table: &Table) -> Option<Spot>
     }
     if read_rate(table).is_none() {
         return Some(Spot::At(PlanKey::Rate));
+    }
+    if read_lead(table).is_none() {
+        return Some(Spot::At(PlanKey::Lead));
     }
     contacts_lack(value_at(table, "contacts"))
 }

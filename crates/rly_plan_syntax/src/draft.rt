@@ -2,7 +2,7 @@ ghost use Rattle.std.specs.Prelude.{◌≡◌, ◌≢◌, None, codes, IfOk, OnE
 ghost use Rattle.toml.specs.View.{array_view, table_view, view};
 ghost use Rattle.toml.specs.Data.{get_member};
 ghost use Rattle.rly_plan_syntax.specs.Draft.{contact_draft_of, draft_of, each_item, hop_in, integer_at, items_at};
-ghost use Rattle.rly_plan_syntax.specs.Draft.{key_at, neighbour_of, rate_at, resend_at, routes_at, text_at};
+ghost use Rattle.rly_plan_syntax.specs.Draft.{key_at, lead_at, neighbour_of, rate_at, resend_at, routes_at, text_at};
 ghost use Rattle.rly_plan_syntax.specs.HelpersDraft.{contact_between, link_in, link_text, neighbour_text};
 
 use crate::addresses::Addresses;
@@ -44,6 +44,8 @@ pub struct HopDraft {
     pub resend: i64,
     /// In bytes a second, if the table limits it.
     pub rate: Option<i64>,
+    /// Seconds before an opening; 0 if the table omits it.
+    pub lead: i64,
     /// The times in which the link is open, in the order of the text.
     pub contacts: Vec<ContactDraft>,
 }
@@ -54,7 +56,13 @@ impl Model for HopDraft {
     ghost Value = { HopText };
 
     ghost view = { λ h.
-        record { neighbour = h.neighbour; resend = h.resend; rate = h.rate; contacts = h.contacts.items } };
+        record {
+          neighbour = h.neighbour;
+          resend = h.resend;
+          rate = h.rate;
+          lead = h.lead;
+          contacts = h.contacts.items;
+        } };
 }
 
 /// A `[[route]]` table.
@@ -174,12 +182,14 @@ fn read_hop(alloc: Global, table: &Table) -> Result<Option<HopDraft>, AllocError
             let LinkDraft {
                 resend,
                 rate,
+                lead,
                 contacts,
             } = link;
             Ok(Some(HopDraft {
                 neighbour,
                 resend,
                 rate,
+                lead,
                 contacts,
             }))
         }
@@ -192,12 +202,14 @@ fn read_hop(alloc: Global, table: &Table) -> Result<Option<HopDraft>, AllocError
 struct LinkDraft {
     resend: i64,
     rate: Option<i64>,
+    lead: i64,
     contacts: Vec<ContactDraft>,
 }
 
 fn read_link(alloc: Global, table: &Table) -> Result<Option<LinkDraft>, AllocError>
     ensures { IfOk result
-        (λ found. option_map (λ l. link_text l.resend l.rate l.contacts.items) found ≡ link_in (table_view table.now)) }
+        (λ found. option_map (λ l. link_text l.resend l.rate l.lead l.contacts.items) found
+        ≡ link_in (table_view table.now)) }
 {
     let Some(resend) = read_resend(table) else {
         return Ok(None);
@@ -205,10 +217,14 @@ fn read_link(alloc: Global, table: &Table) -> Result<Option<LinkDraft>, AllocErr
     let Some(rate) = read_rate(table) else {
         return Ok(None);
     };
+    let Some(lead) = read_lead(table) else {
+        return Ok(None);
+    };
     match read_items::<ContactDraft>(alloc, value_at(table, "contacts"))? {
         Some(contacts) => Ok(Some(LinkDraft {
             resend,
             rate,
+            lead,
             contacts,
         })),
         None => Ok(None),
@@ -309,6 +325,16 @@ pub(crate) fn read_rate(table: &Table) -> Option<Option<i64>>
             None => None,
         },
         None => Some(None),
+    }
+}
+
+/// The `lead` of a hop (optional).
+pub(crate) fn read_lead(table: &Table) -> Option<i64>
+    ensures { result ≡ lead_at (get_member (codes "lead") (table_view table.now)) }
+{
+    match value_at(table, "lead") {
+        Some(value) => value.as_integer(),
+        None => Some(0),
     }
 }
 

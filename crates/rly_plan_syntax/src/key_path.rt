@@ -44,6 +44,8 @@ pub enum PlanKey {
     Resend,
     /// `rate`
     Rate,
+    /// `lead`
+    Lead,
     /// `contacts`
     Contacts,
     /// `destination`
@@ -68,6 +70,7 @@ impl PlanKey {
             PlanKey::Key => "key",
             PlanKey::Resend => "resend",
             PlanKey::Rate => "rate",
+            PlanKey::Lead => "lead",
             PlanKey::Contacts => "contacts",
             PlanKey::Destination => "destination",
             PlanKey::Hop => "hop",

@@ -28,10 +28,11 @@ impl Row {
 
 /// Whether a key is one that a hop has and a peer doesn't.
 fn is_link_key(key: &str) -> bool
-    ensures { result ≡ list_any (bytes_eq key.now) (codes "resend" ∷ codes "rate" ∷ codes "contacts" ∷ []) }
+    ensures { result
+        ≡ list_any (bytes_eq key.now) (codes "resend" ∷ codes "rate" ∷ codes "lead" ∷ codes "contacts" ∷ []) }
 {
     match key {
-        "resend" | "rate" | "contacts" => true,
+        "resend" | "rate" | "lead" | "contacts" => true,
         _ => false,
     }
 }

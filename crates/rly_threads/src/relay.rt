@@ -25,6 +25,7 @@ use std::snapshot::Snapshot;
 use std::sync::{OnceLock, OnceToken, Wait};
 use std::thread;
 use std::thread::{Promise, PromisedHandle, Scope, Threads};
+use std::time::{Clock, Duration};
 
 /// A worker that had a thread, after its end.
 #[derive(Drop)]
@@ -51,21 +52,25 @@ pub struct Relayed<D: Disk, L: Link, T: Turn, W: Waker> {
 }
 
 /// Starts each worker in a thread of its own, and waits until all have ended. The calling thread runs the flusher,
-/// which answers their calls meanwhile. Once the journal is broken each worker stops at its next turn, and at once
-/// if one of them got no thread. If memory is refused for the queues, the flusher or the threads' results, nothing
-/// is started, and the journal is handed back.
+/// which answers their calls meanwhile; its rounds pause for `gather` to gather more calls. Once the journal is broken
+/// each worker stops at its next turn, and at once if one of them got no thread; `bell` then ends their waits. If
+/// memory is refused for the queues, the flusher or the threads' results, nothing is started, and the journal is handed
+/// back.
 pub fn run_relay<
-    R: Threads + Wait + Sync,
+    R: Threads + Wait + Clock + Sync,
     D: Disk + Drop,
     L: Link + Drop + Send,
     T: Turn + Drop + Send,
     W: Waker + Drop + Send,
+    B: Waker,
 >(
     rt: &R,
     alloc: Global,
     journal: Journal<D>,
+    gather: Duration,
     plan: &Plan,
     posts: Vec<Post<L, T, W>>,
+    bell: &mut B,
 ) -> Result<Relayed<D, L, T, W>, Journal<D>>
     requires { (1 ≤ length posts.items) × (length posts.items ≤ 256) }
     // At the end of a new line that has a seat for each worker.
@@ -78,7 +83,9 @@ pub fn run_relay<
         return Err(journal);
     };
     let stop_flag = OnceLock::new();
-    run_relay_at(rt, alloc, journal, plan, posts, seats, line_end, &stop_flag)
+    run_relay_at(
+        rt, alloc, journal, gather, plan, posts, bell, seats, line_end, &stop_flag,
+    )
 }
 
 /// The same as `run_relay`, at the end of a new queue and with a stop flag of the caller's. Each worker gets the
@@ -86,17 +93,20 @@ pub fn run_relay<
 /// unless the journal broke. The flag is set once the workers are to end or the relay has ended: a reader that sees
 /// it set needs to make no more calls. If memory is refused, the queue is closed and the flag set.
 pub fn run_relay_at<
-    R: Threads + Wait + Sync,
+    R: Threads + Wait + Clock + Sync,
     D: Disk + Drop,
     L: Link + Drop + Send,
     T: Turn + Drop + Send,
     W: Waker + Drop + Send,
+    B: Waker,
 >(
     rt: &R,
     alloc: Global,
     journal: Journal<D>,
+    gather: Duration,
     plan: &Plan,
     posts: Vec<Post<L, T, W>>,
+    bell: &mut B,
     seats: Vec<Seat>,
     line_end: LineEnd,
     stop_flag: &OnceLock<bool>,
@@ -124,7 +134,7 @@ pub fn run_relay_at<
             ensures refused { IfErr result (λ back. back ≡ journal) }
         {
             relay_in(
-                scope, rt, alloc, journal, plan, posts, seats, line_end, stop_flag,
+                scope, rt, alloc, journal, gather, plan, posts, bell, seats, line_end, stop_flag,
             )
         },
     )
@@ -135,18 +145,21 @@ fn relay_in<
     's,
     'a: 's,
     E,
-    R: Threads + Wait + Sync,
+    R: Threads + Wait + Clock + Sync,
     D: Disk + Drop,
     L: Link + Drop + Send + 's,
     T: Turn + Drop + Send + 's,
     W: Waker + Drop + Send + 's,
+    B: Waker,
 >(
     scope: &Scope<'s, E>,
     rt: &'s R,
     alloc: Global,
     journal: Journal<D>,
+    gather: Duration,
     plan: &'s Plan,
     posts: Vec<Post<L, T, W>>,
+    bell: &mut B,
     seats: Vec<Seat>,
     line_end: LineEnd,
     stop_flag: &'a OnceLock<bool>,
@@ -169,7 +182,7 @@ fn relay_in<
         return Err(journal);
     };
     let flusher = match Flusher::new(alloc, journal, line_end) {
-        Ok(flusher) => flusher,
+        Ok(flusher) => flusher.with_gather(gather),
         Err((journal, line_end)) => {
             call_off(rt, line_end, stop_flag);
             return Err(journal);
@@ -178,7 +191,7 @@ fn relay_in<
     let threads = start_all(
         scope, rt, alloc, plan, params, posts, seats, stop_flag, threads,
     );
-    Ok(serve_to_end(rt, flusher, threads, stop_flag, ended))
+    Ok(serve_to_end(rt, flusher, threads, stop_flag, bell, ended))
 }
 
 /// Nothing is started: closes the queues and sets the stop flag.
@@ -223,16 +236,18 @@ fn start_all<
 /// of them got no thread, the others end at once.
 fn serve_to_end<
     'a,
-    R: Threads + Wait,
+    R: Threads + Wait + Clock,
     D: Disk + Drop,
     L: Link + Drop,
     T: Turn + Drop,
     W: Waker + Drop,
+    B: Waker,
 >(
     rt: &R,
     flusher: Flusher<D>,
     threads: Vec<Thread<'a, L, T, W>>,
     stop_flag: &'a OnceLock<bool>,
+    bell: &mut B,
     empty: Vec<Option<Ended<L, T, W>>>,
 ) -> Relayed<D, L, T, W>
     requires empty { (empty.items ≡ []) × (length threads.items ≤ vec_capacity empty) }
@@ -252,7 +267,7 @@ fn serve_to_end<
 {
     let mut flusher = flusher;
     forget_missing(&mut flusher, &threads);
-    let (mut finished, said) = serve_and_tell(rt, flusher, stop_flag, have_started(&threads));
+    let (mut finished, said) = serve_and_tell(rt, flusher, stop_flag, bell, have_started(&threads));
     let ended = join_all(rt, threads, &said, &mut finished.lines, empty);
     Relayed {
         complete: have_run_out(&ended),
@@ -263,11 +278,12 @@ fn serve_to_end<
 }
 
 /// Runs the flusher until it ends, and sets the workers' stop flag: if the journal broke, or at once if not all of
-/// them are present.
-fn serve_and_tell<'a, R: Wait, D: Disk + Drop>(
+/// them are present. Those that wait then are woken.
+fn serve_and_tell<'a, R: Wait + Clock, D: Disk + Drop, B: Waker>(
     rt: &R,
     flusher: Flusher<D>,
     stop_flag: &'a OnceLock<bool>,
+    bell: &mut B,
     are_all: bool,
 ) -> (Finished<D>, OnceToken<'a, bool>)
     ensures broken { result.0.broken ≡ result.0.journal.broken }
@@ -280,9 +296,11 @@ fn serve_and_tell<'a, R: Wait, D: Disk + Drop>(
     if are_all {
         let finished = flusher.serve(rt);
         let said = tell_workers(rt, stop_flag, finished.broken);
+        bell.wake_all();
         (finished, said)
     } else {
         let said = tell_workers(rt, stop_flag, true);
+        bell.wake_all();
         (flusher.serve(rt), said)
     }
 }

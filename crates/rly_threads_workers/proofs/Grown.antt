@@ -1,6 +1,6 @@
 -- The recorded histories grow, turn by turn.
-use Rattle.std.proofs.Common.{◌≡◌, ◌∙◌, ℕ, List, [], ◌∷◌, ◌++◌, not, Bool, true, false, refl, ap, sym, subst}
-use Rattle.std.specs.Prelude.{Option, Some, None, Err}
+use Rattle.std.proofs.Common.{◌≡◌, ◌∙◌, ◌<◌, ℕ, zero, suc, List, [], ◌∷◌, ◌++◌, not, Bool, true, false, arith, refl, ap, sym, subst}
+use Rattle.std.specs.Prelude.{◌↔◌, IsTrue, Option, Some, None, Err}
 use Rattle.std.proofs.lemmas.List.{append-nil, append_assoc}
 use Rattle.rly_line.specs.declared.call_error.BatchError.TheVariants.{Lost}
 use Rattle.rly_link.specs.declared.turn.Go.{Go}
@@ -10,6 +10,7 @@ use Rattle.rly_threads_workers.specs.DeskExchanges.{Asked}
 use Rattle.rly_link.specs.LinkHistory.{Handed, TellsMore}
 use Rattle.rly_threads_workers.specs.HelpersTurns.{Did}
 use Rattle.rly_threads_workers.specs.Runs.{EndsView, Ran}
+use Rattle.rly_link.specs.declared.link.Sleep.{Sleep}
 use Rattle.rly_threads_workers.specs.Turns.{Done, Made, done_in, done_both, hearings_from, nothing_done, receives_of, with_hearings, with_start}
 
 pub tells_nothing : {A : Type 0} (told : Option (List A)) → TellsMore told told []
@@ -57,12 +58,12 @@ did_ask old mid new c d calls packets handed left asked around quiet sent quiet_
 }
 
 -- before it packets were received, and the turn's tick was handed out
-pub did_hear : {C : Type 0} (old mid new : EndsView) (c : C) (d : Done C) (worker : Worker) (waits : Bool) (packets : List (List ℕ)) (at : Go)
-    → TellsMore old.heard mid.heard (hearings_from waits (receives_of packets)) → TellsMore old.handed mid.handed ((worker, Heard, at) ∷ [])
-    → mid ≡ record old { heard = mid.heard; handed = mid.handed } → Did mid new c d → Did old new c (with_hearings worker waits packets at d)
-did_hear old mid new c d worker waits packets at heard moment quiet did = record {
+pub did_hear : {C : Type 0} (old mid new : EndsView) (c : C) (d : Done C) (worker : Worker) (sleep : Sleep) (packets : List (List ℕ)) (at : Go)
+    → TellsMore old.heard mid.heard (hearings_from sleep (receives_of packets)) → TellsMore old.handed mid.handed ((worker, Heard, at) ∷ [])
+    → mid ≡ record old { heard = mid.heard; handed = mid.handed } → Did mid new c d → Did old new c (with_hearings worker sleep packets at d)
+did_hear old mid new c d worker sleep packets at heard moment quiet did = record {
   left = did.left;
-  heard = tells_more old.heard mid.heard new.heard (hearings_from waits (receives_of packets)) d.heard heard did.heard;
+  heard = tells_more old.heard mid.heard new.heard (hearings_from sleep (receives_of packets)) d.heard heard did.heard;
   sent = subst (λ s. TellsMore s new.sent d.sent) (ap (λ t. t.sent) quiet) did.sent;
   asked = subst (λ a. TellsMore a new.asked d.asked) (ap (λ t. t.asked) quiet) did.asked;
   handed = tells_more old.handed mid.handed new.handed ((worker, Heard, at) ∷ []) d.handed moment did.handed;
@@ -158,3 +159,12 @@ is_on false e = sym e
 -- the tick at a start at which the worker continues
 pub goes_on : (go : Go) → not go.on ≡ false → go ≡ record go { on = true }
 goes_on go e = λ i. record go { on = is_on go.on e i }
+
+-- whether the first half of a turn left something to submit
+pub none_if : (found : Bool) (count : ℕ) → IsTrue found ↔ (0 < count) → found ≡ false → count ≡ 0
+none_if true count iff e = absurd (cc)
+none_if false zero iff e = refl
+none_if false (suc count) iff e = let found : false ≡ true = iff.1 (omega arith) in absurd (cc)
+
+pub some_if : (found : Bool) (count : ℕ) → IsTrue found ↔ (0 < count) → found ≡ true → 0 < count
+some_if found count iff e = iff.0 e

@@ -4,3 +4,4 @@ pub mod Receivers
 pub mod Senders
 pub mod RateKept
 pub mod Strays
+pub mod Asleep

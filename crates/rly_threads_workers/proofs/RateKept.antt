@@ -212,7 +212,7 @@ turn_rated lo hi w most p b given has low high =
     let room = send_room ready at in
     let again = again_numbers ready.pace room at (repeats ready.pace (repeat_count most room) at) in
     let left = sending_step ready.core (Turn (nat_lt (length again) room)) in
-    let acting : SenderState = record ready { core = left.0; moved = false } in
+    let acting : SenderState = record ready { core = left.0; drained = false; failed = false } in
     calls_rated lo hi w given.heard.now given.made acting b
     (calls_from again (or_pick left.1) (length again + core_count (most - length again) (room - length again) acting left.1))
     (moment_rate heard in_contact at ∙ heard_rate p packets ∙ has) low high

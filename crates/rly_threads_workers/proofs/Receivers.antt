@@ -23,7 +23,9 @@ use Rattle.rly_link.specs.LinkHistory.{Handed, TellsMore, new_hearing, message_i
 use Rattle.rly_threads_workers.specs.HelpersTurns.{Did, HasAnswered, HasGathered, HasMore, HasTakeRoom, greater}
 use Rattle.rly_threads_workers.specs.ReceiverTurns.{Arrival, Arrivals, ReceiverWorker, WaitingCore, NamedTake, answers_to_cores, answers_sent, around_takes, custody_in, custody_packets, hearings, receiver_worker, receiver_done, receiver_event, receiver_turn, is_taken, lacks_memory, action_on_answer, receives, refusal_packets, take_of, takes_asked, takes_done, core_of_take, wakings, takes_of_packet, wanted_by}
 use Rattle.rly_threads_workers.specs.Runs.{EndsView, Ran}
-use Rattle.rly_threads_workers.specs.Turns.{done_in, woken_if}
+use Rattle.rly_link.specs.declared.link.Sleep.{Sleep}
+use Rattle.rly_link.specs.declared.link.Sleep.TheVariants.{No, Woken}
+use Rattle.rly_threads_workers.specs.Turns.{done_in, sleep_at, woken_if}
 use Rattle.rly_threads_workers.specs.WorkerRuns.{HasReceived}
 use Rattle.rly_threads_workers.proofs.Grown.{nowhere, tells_more, tells_nothing}
 
@@ -50,14 +52,17 @@ gathering_none w r told takes = record {
   more = record { most = refl; asks = sym (append-nil takes.asks.items); waits = sym (append-nil takes.waiting.items) };
 }
 
+is_later : (n : ℕ) → (suc n == 0) ≡ false
+is_later n = grind (arith, nat_tests)
+
 -- the first receive waits, and one after others doesn't
-hearings_more : (xs : List (Option (List ℕ) × Go)) (x : Option (List ℕ) × Go) (waits : Bool) → waits ≡ (length xs == 0)
-    → hearings (xs ++ x ∷ []) ≡ hearings xs ++ new_hearing waits x.0 ∷ []
-hearings_more [] x waits e = ap (λ b. new_hearing b x.0 ∷ []) (sym e)
-hearings_more (y ∷ ys) x waits e =
-    let no : waits ≡ false = e ∙ grind (arith, nat_tests) in
-    ap (λ l. new_hearing true y.0 ∷ l) (map-append (λ (z : Option (List ℕ) × Go). new_hearing false z.0) ys (x ∷ []))
-    ∙ ap (λ b. new_hearing true y.0 ∷ (map (λ (z : Option (List ℕ) × Go). new_hearing false z.0) ys ++ new_hearing b x.0 ∷ [])) (sym no)
+hearings_more : (xs : List (Option (List ℕ) × Go)) (x : Option (List ℕ) × Go) (sleep : Sleep) → sleep ≡ sleep_at (length xs) Woken
+    → hearings (xs ++ x ∷ []) ≡ hearings xs ++ new_hearing sleep x.0 ∷ []
+hearings_more [] x sleep e = ap (λ b. new_hearing b x.0 ∷ []) (sym e)
+hearings_more (y ∷ ys) x sleep e =
+    let no : sleep ≡ No = e ∙ ap (λ b. if b then Woken else No) (is_later (length ys)) in
+    ap (λ l. new_hearing Woken y.0 ∷ l) (map-append (λ (z : Option (List ℕ) × Go). new_hearing No z.0) ys (x ∷ []))
+    ∙ ap (λ b. new_hearing Woken y.0 ∷ (map (λ (z : Option (List ℕ) × Go). new_hearing No z.0) ys ++ new_hearing b x.0 ∷ [])) (sym no)
 
 map_length : {A B : Type 0} (f : A → B) (xs : List A) → length (map f xs) ≡ length xs
 map_length f [] = refl
@@ -78,17 +83,17 @@ flat_one : {X A : Type 0} (f : X → List A) (xs : List X) (x : X) → flat_map 
 flat_one f xs x = flat_map-append f xs (x ∷ []) ∙ ap (λ l. flat_map f xs ++ l) (append-nil (f x))
 
 -- one more packet was received
-pub gathering_more : (w : ReceiverWorker) (r : Receiver) (old mid now : EndsView) (before takes after : Takes) (place : ℕ) (a : Arrival) (waits : Bool)
-    → Gathering w r old mid before takes place → waits ≡ (place == 0)
-    → TellsMore mid.heard now.heard (new_hearing waits (Some a.packet) ∷ []) → TellsMore mid.handed now.handed ((worker.Receiver w.peer, point.Heard, a.heard) ∷ [])
+pub gathering_more : (w : ReceiverWorker) (r : Receiver) (old mid now : EndsView) (before takes after : Takes) (place : ℕ) (a : Arrival) (sleep : Sleep)
+    → Gathering w r old mid before takes place → sleep ≡ sleep_at place Woken
+    → TellsMore mid.heard now.heard (new_hearing sleep (Some a.packet) ∷ []) → TellsMore mid.handed now.handed ((worker.Receiver w.peer, point.Heard, a.heard) ∷ [])
     → now ≡ record mid { heard = now.heard; handed = now.handed } → HasMore takes after (takes_of_packet w before.most r a)
     → Gathering w r old now before after (place + 1)
-gathering_more w r old mid now before takes after place a waits g first heard handed same more =
+gathering_more w r old mid now before takes after place a sleep g first heard handed same more =
     let at : (Option (List ℕ) × Go) → Handed = λ x. (worker.Receiver w.peer, point.Heard, x.1) in
-    let first_is : waits ≡ (length (map gave g.packets) == 0) = first ∙ ap (λ n. n == 0) (sym (map_length gave g.packets ∙ g.count)) in
+    let first_is : sleep ≡ sleep_at (length (map gave g.packets)) Woken = first ∙ ap (λ n. sleep_at n Woken) (sym (map_length gave g.packets ∙ g.count)) in
     let all : map gave (g.packets ++ a ∷ []) ≡ map gave g.packets ++ gave a ∷ [] = map-append gave g.packets (a ∷ []) in
-    let hears : hearings (map gave (g.packets ++ a ∷ [])) ≡ hearings (map gave g.packets) ++ new_hearing waits (Some a.packet) ∷ [] =
-    ap hearings all ∙ hearings_more (map gave g.packets) (gave a) waits first_is in
+    let hears : hearings (map gave (g.packets ++ a ∷ [])) ≡ hearings (map gave g.packets) ++ new_hearing sleep (Some a.packet) ∷ [] =
+    ap hearings all ∙ hearings_more (map gave g.packets) (gave a) sleep first_is in
     let hands : map at (map gave (g.packets ++ a ∷ [])) ≡ map at (map gave g.packets) ++ at (gave a) ∷ [] =
     ap (map at) all ∙ map-append at (map gave g.packets) (gave a ∷ []) in
     record {
@@ -107,19 +112,19 @@ lt_false : (a b : ℕ) → b ≤ a → nat_lt a b ≡ false
 lt_false a b h = grind (arith, nat_tests)
 
 -- a receive returned nothing
-pub gathering_quiet : (w : ReceiverWorker) (r : Receiver) (old mid now : EndsView) (before takes : Takes) (place : ℕ) (quiet : Go) (waits : Bool)
-    → Gathering w r old mid before takes place → place < before.most → waits ≡ (place == 0)
-    → TellsMore mid.heard now.heard (new_hearing waits None ∷ []) → TellsMore mid.handed now.handed ((worker.Receiver w.peer, point.Heard, quiet) ∷ [])
+pub gathering_quiet : (w : ReceiverWorker) (r : Receiver) (old mid now : EndsView) (before takes : Takes) (place : ℕ) (quiet : Go) (sleep : Sleep)
+    → Gathering w r old mid before takes place → place < before.most → sleep ≡ sleep_at place Woken
+    → TellsMore mid.heard now.heard (new_hearing sleep None ∷ []) → TellsMore mid.handed now.handed ((worker.Receiver w.peer, point.Heard, quiet) ∷ [])
     → now ≡ record mid { heard = now.heard; handed = now.handed }
     → (packets : List Arrival) × (quiet : Go) × HasGathered w r old now before takes packets quiet
-gathering_quiet w r old mid now before takes place quiet waits g below first heard handed same =
+gathering_quiet w r old mid now before takes place quiet sleep g below first heard handed same =
     let at : (Option (List ℕ) × Go) → Handed = λ x. (worker.Receiver w.peer, point.Heard, x.1) in
-    let first_is : waits ≡ (length (map gave g.packets) == 0) = first ∙ ap (λ n. n == 0) (sym (map_length gave g.packets ∙ g.count)) in
+    let first_is : sleep ≡ sleep_at (length (map gave g.packets)) Woken = first ∙ ap (λ n. sleep_at n Woken) (sym (map_length gave g.packets ∙ g.count)) in
     let fewer : length g.packets < before.most = omega (arith, g.count, below) in
     let all : receives before.most g.packets quiet ≡ map gave g.packets ++ (None, quiet) ∷ [] =
     ap (λ b. map gave g.packets ++ (if b then (None, quiet) ∷ [] else [])) (lt_true (length g.packets) before.most fewer) in
-    let hears : hearings (receives before.most g.packets quiet) ≡ hearings (map gave g.packets) ++ new_hearing waits None ∷ [] =
-    ap hearings all ∙ hearings_more (map gave g.packets) (None, quiet) waits first_is in
+    let hears : hearings (receives before.most g.packets quiet) ≡ hearings (map gave g.packets) ++ new_hearing sleep None ∷ [] =
+    ap hearings all ∙ hearings_more (map gave g.packets) (None, quiet) sleep first_is in
     let hands : map at (receives before.most g.packets quiet) ≡ map at (map gave g.packets) ++ (worker.Receiver w.peer, point.Heard, quiet) ∷ [] =
     ap (map at) all ∙ map-append at (map gave g.packets) ((None, quiet) ∷ []) in (
       g.packets,

@@ -1,23 +1,20 @@
 -- A sending worker within a turn.
-use Rattle.std.proofs.Common.{◌≡◌, ◌∙◌, ◌<◌, ◌≤◌, ◌+◌, ◌++◌, ◌&&◌, ℕ, Bool, List, [], ◌∷◌, ap, arith, false, inl, inr, length, map, refl, subst, suc, sym, true, zero}
-use Rattle.std.specs.Prelude.{◌-◌, ◌==◌, ◌⊎◌, slice_index_or, fold, nat_lt, take, if◌then◌else◌, Option, Some, None, Ok, Err, IfNone, IfSome}
+use Rattle.std.proofs.Common.{◌≡◌, ◌∙◌, ◌<◌, ◌≤◌, ◌+◌, ◌++◌, ℕ, Bool, List, [], ◌∷◌, ap, arith, false, inl, inr, length, map, refl, reverse, subst, suc, sym, true, zero}
+use Rattle.std.specs.Prelude.{◌-◌, ◌==◌, ◌⊎◌, slice_index_or, fold, nat_lt, take, if◌then◌else◌, Option, Some, None, Result, Ok, Err, IfErr, IfNone, IfSome, OnOk}
 use Rattle.std.proofs.lemmas.Bool.Decides.{nat_tests}
 use Rattle.std.specs.List.{cons_option, filter, filter_map, range_with_len, zip}
-use Rattle.std.proofs.lemmas.List.{append-nil, append_assoc, length-append, length-take, map-append, take_all}
+use Rattle.std.proofs.lemmas.List.{append-nil, append_assoc, length-append, length-take, map-append, reverse-reverse, take_all}
 use Rattle.std.proofs.lemmas.List.Elements.{filter_map-append}
-use Rattle.std.proofs.lemmas.Option.{none-some}
 use Rattle.std.proofs.lemmas.List.FromFn.{length-map-range_with_len, map-range_with_len_more}
 use Rattle.rly_core.specs.declared.params.Params.{Params}
 use Rattle.rly_hop.specs.declared.sending.event.OutAction.{OutAction}
 use Rattle.rly_hop.specs.declared.sending.event.OutAction.TheVariants as action
 use Rattle.rly_hop.specs.declared.sending.event.OutEvent.{OutEvent}
-use Rattle.rly_hop.specs.declared.sending.event.OutEvent.TheVariants.{Turn}
-use Rattle.rly_hop.specs.Sender.{Sender}
-use Rattle.rly_hop.specs.Sending.{sender, sending_step}
+use Rattle.rly_hop.specs.Payloads.{out_action_bytes}
+use Rattle.rly_hop.specs.Sending.{sender}
 use Rattle.rly_hop_pacing.specs.CongestionControl.{ControlView, is_missing, repeats, spare_number}
 use Rattle.rly_hop_pacing.specs.Flights.{sent_numbers}
-use Rattle.rly_line.specs.declared.call_error.BatchError.TheVariants as batch
-use Rattle.rly_line.specs.declared.call_error.CallError.TheVariants.{Closed, Lost}
+use Rattle.rly_line.specs.declared.call_error.BatchError.{BatchError}
 use Rattle.rly_machine.specs.declared.call.Answer.{Answer}
 use Rattle.rly_machine.specs.declared.command.Ask.{Ask}
 use Rattle.rly_core.specs.declared.ids.HopId.{HopId}
@@ -25,17 +22,20 @@ use Rattle.rly_plan.specs.ContactPlan.{ContactPlan, is_open, next_hop_at, rate, 
 use Rattle.rly_plan.specs.declared.neighbour.Neighbour.{Neighbour}
 use Rattle.rly_threads_workers.specs.WorkerRuns.{HasSent}
 use Rattle.rly_link.specs.declared.turn.Go.{Go}
-use Rattle.rly_link.specs.declared.turn.Point.TheVariants.{Heard}
+use Rattle.rly_link.specs.declared.turn.Point.TheVariants.{Answered, Call, Heard}
 use Rattle.rly_link.specs.declared.turn.Worker.TheVariants as worker
-use Rattle.rly_threads_workers.specs.DeskExchanges.{BatchOutcome, CallOutcome, call_asked}
+use Rattle.rly_threads_workers.specs.DeskExchanges.{batch_outcome}
 use Rattle.rly_link.specs.LinkHistory.{TellsMore, new_hearing}
+use Rattle.rly_threads_workers.specs.declared.calls.Calls.{Calls}
 use Rattle.rly_threads_workers.specs.declared.sender_state.SenderState.{SenderState}
-use Rattle.rly_threads_workers.specs.SenderTurns.{SenderWorker, again_numbers, call_at, calls_from, core_call_at, core_count, event_in, named_ask, or_pick, repeat_count, after_out_event, sender_worker, sender_acts, sender_done, sender_events, sender_on_action, sender_on_calls, sender_on_packet, sender_sent, sender_turn, sent_on, waits_first}
+use Rattle.rly_threads_workers.specs.SenderTurns.{SenderWorker, again_numbers, call_at, calls_from, core_call_at, core_count, core_requests, event_in, named_ask, or_pick, repeat_count, after_out_event, sender_worker, sender_done, sender_events, sender_on_calls, sender_on_packet, sender_requests, sender_sent, sender_sleep, sender_turn, sent_on}
 use Rattle.rly_threads_workers.specs.SenderState.{first_sender_state, on_moment, send_room}
-use Rattle.rly_threads_workers.specs.HelpersTurns.{Did, HasHeard, HasHandedEvent, IsCall, call_event}
+use Rattle.rly_threads_workers.specs.HelpersTurns.{AreListed, Did, HasCallRoom, HasHeard, HasHandedEvent, HasNumbers, HasRequested, IsCall, IsSameTurn, answers_in, asks_in, coming_in, outcome_events}
 use Rattle.rly_threads_workers.specs.Runs.{EndsView, Ran}
-use Rattle.rly_threads_workers.specs.Turns.{Given, Made, around_call, done_in, hearings_from, receives_of}
-use Rattle.rly_threads_workers.proofs.Grown.{did_ask, did_hear, tells_more, tells_nothing}
+use Rattle.rly_link.specs.declared.link.Sleep.{Sleep}
+use Rattle.rly_link.specs.declared.link.Sleep.TheVariants.{No}
+use Rattle.rly_threads_workers.specs.Turns.{Given, Made, around_call, done_in, hearings_from, receives_of, sleep_at, with_hearings}
+use Rattle.rly_threads_workers.proofs.Grown.{did_ask, did_hear, did_nothing, no_call, tells_more, tells_nothing}
 
 -- a core without events
 pub told_none : (in_contact : Bool) (at : ℕ) (ends : EndsView) (p : SenderState) → HasHandedEvent in_contact at ends ends p p []
@@ -118,6 +118,19 @@ telling_more again named in_contact at old mid new p q r all left rest place ans
       told = subst (HasHandedEvent in_contact at old new p r) events more;
     }
 
+pub telling_none : (again : List ℕ) (named : OutAction (List ℕ)) (in_contact : Bool) (at : ℕ) (ends : EndsView) (p : SenderState) (all left : List Answer) → left ≡ all
+    → Telling again named in_contact at ends ends p p all left 0
+telling_none again named in_contact at ends p all left is = record { done = []; parts = sym is; count = refl; told = told_none in_contact at ends p }
+
+-- all were answered
+pub telling_all : (again : List ℕ) (named : OutAction (List ℕ)) (in_contact : Bool) (at : ℕ) (old now : EndsView) (before after : SenderState) (all left : List Answer) (place : ℕ)
+    → Telling again named in_contact at old now before after all left place → left ≡ []
+    → HasHandedEvent in_contact at old now before after (sender_events (calls_from again named (length all)) (Ok all))
+telling_all again named in_contact at old now before after all left place h none =
+    let whole : all ≡ h.done = h.parts ∙ ap (λ l. h.done ++ l) none ∙ append-nil h.done in
+    let count : place ≡ length all = sym h.count ∙ ap length (sym whole) in
+    subst (HasHandedEvent in_contact at old now before after) (λ i. sender_events (calls_from again named (count i)) (Ok (sym whole i))) h.told
+
 -- a Release has an ask, and so does a Pick
 release_asks : (w : SenderWorker) (now number : ℕ) (is_first : Bool) → (ask : Ask) × (named_ask w now (if is_first then action.Release number else action.Pick) ≡ Some ask)
 release_asks w now number true = (_, refl)
@@ -199,54 +212,6 @@ called w old mid new now made p left (first ∷ others) asks in_contact some lis
     (around_call (worker.Sender w.hop) made)
     t.core (subst (λ l. TellsMore old.asked mid.asked ((l, made.outcome) ∷ [])) list asked) around quiet t.sent t.same
 
--- the outcome of one call, as a batch of one
-abbrev pub one_outcome : CallOutcome → BatchOutcome
-one_outcome (Ok answer) = Ok (answer ∷ [])
-one_outcome (Err (Closed back)) = Err batch.Closed
-one_outcome (Err Lost) = Err batch.Lost
-
-pub one_asked : (ask : Ask) (outcome : CallOutcome) → call_asked ask outcome ≡ (ask ∷ [], one_outcome outcome)
-one_asked ask (Ok answer) = refl
-one_asked ask (Err (Closed back)) = refl
-one_asked ask (Err Lost) = refl
-
-one_event : (named : OutAction (List ℕ)) (outcome : CallOutcome) → sender_events (named ∷ []) (one_outcome outcome) ≡ call_event named outcome ∷ []
-one_event named (Ok answer) = refl
-one_event named (Err (Closed back)) = refl
-one_event named (Err Lost) = refl
-
--- the call that is submitted alone
-pub one_call : (again : List ℕ) (named : OutAction (List ℕ)) → calls_from again named 1 ≡ call_at again named 0 ∷ []
-one_call again named = refl
-
-one_ask : (w : SenderWorker) (now : ℕ) (named : OutAction (List ℕ)) (ask : Ask) → Some ask ≡ named_ask w now named → ask ∷ [] ≡ filter_map (named_ask w now) (named ∷ [])
-one_ask w now named ask is = ap (λ x. cons_option x []) is
-
--- one call was made
-pub called_one : (w : SenderWorker) (old mid new : EndsView) (now : ℕ) (before after : Go) (p left : SenderState) (named : OutAction (List ℕ)) (ask : Ask) (outcome : CallOutcome) (e : OutEvent (List ℕ)) (in_contact : Bool)
-    → Some ask ≡ named_ask w now named → TellsMore old.asked mid.asked (call_asked ask outcome ∷ [])
-    → TellsMore old.handed mid.handed (around_call (worker.Sender w.hop) (record { outcome = one_outcome outcome; before = before; after = after }))
-    → mid ≡ record old { asked = mid.asked; handed = mid.handed } → in_contact ≡ is_open w.plan w.hop after.now
-    → e ≡ call_event named outcome
-    → left ≡ after_out_event in_contact after.since p e
-    → TellsMore mid.sent new.sent (sent_on in_contact after.since p e) → new ≡ record mid { sent = new.sent }
-    → Did old new left (sender_on_calls w now (record { outcome = one_outcome outcome; before = before; after = after }) p (named ∷ []))
-called_one w old mid new now before after p left named ask outcome e in_contact is asked around quiet opening event told sent same =
-    let made : Made = record { outcome = one_outcome outcome; before = before; after = after } in
-    let one = told_more in_contact after.since mid mid new p p left [] e (told_none in_contact after.since mid p) told sent same in
-    let events : e ∷ [] ≡ sender_events (named ∷ []) made.outcome = ap (λ x. x ∷ []) event ∙ sym (one_event named outcome) in
-    called w old mid new now made p left (named ∷ []) (ask ∷ []) in_contact
-    (omega arith) (one_ask w now named ask is) (subst (λ x. TellsMore old.asked mid.asked (x ∷ [])) (one_asked ask outcome) asked) around quiet opening
-    (subst (HasHandedEvent in_contact after.since mid new p left) events one)
-
--- a call has an ask
-pub call_asks : (w : SenderWorker) (now : ℕ) (named : OutAction (List ℕ)) → IsCall named → None ≡ named_ask w now named → ⊥
-call_asks w now action.AskWindow is none = none-some _ none
-call_asks w now (action.Release number) is none = none-some _ none
-call_asks w now (action.Fetch number) is none = none-some _ none
-call_asks w now action.Pick is none = none-some _ none
-call_asks w now (action.Send m) is none = absurd is
-
 -- what is submitted for the core's request is a call
 pub or_pick_is_call : (named : Option (OutAction (List ℕ))) → IsCall (or_pick named)
 or_pick_is_call None = tt
@@ -302,21 +267,16 @@ pub count_fits : (most room : ℕ) (p : SenderState) (named : Option (OutAction 
 count_fits most room p None again some few = omega (arith, some, few)
 count_fits most room p (Some named) again some few = grind arith
 
--- several calls are 64 at most, and there is room for their answers
-pub several_fit : (most asks answers count : ℕ) → ((most ≡ 64) × (64 ≤ asks) × (64 ≤ answers)) ⊎ (most ≡ 1) → 1 < count → count ≤ most → (count ≤ 64) × (count ≤ answers)
-several_fit most asks answers count (inl room) several few = (omega (arith, room.0, few), omega (arith, room.0, room.2, few))
-several_fit most asks answers count (inr one) several few = absurd (omega (arith, one, several, few))
-
 -- so far: these packets were received
-pub record Hearing (waits : Bool) (old now : EndsView) (before after : SenderState) (place : ℕ) : Type 0 where
+pub record Hearing (sleep : Sleep) (old now : EndsView) (before after : SenderState) (place : ℕ) : Type 0 where
   pub packets : List (List ℕ)
   pub count : length packets ≡ place
-  pub heard : TellsMore old.heard now.heard (hearings_from waits (map (λ packet. Some packet) packets))
+  pub heard : TellsMore old.heard now.heard (hearings_from sleep (map (λ packet. Some packet) packets))
   pub same : now ≡ record old { heard = now.heard }
   pub core : after ≡ fold sender_on_packet before packets
 
-pub hearing_none : (waits : Bool) (told : EndsView) (s : SenderState) → Hearing waits told told s s 0
-hearing_none waits told s = record { packets = []; count = refl; heard = tells_nothing told.heard; same = refl; core = refl }
+pub hearing_none : (sleep : Sleep) (told : EndsView) (s : SenderState) → Hearing sleep told told s s 0
+hearing_none sleep told s = record { packets = []; count = refl; heard = tells_nothing told.heard; same = refl; core = refl }
 
 abbrev some_of : List (List ℕ) → List (Option (List ℕ))
 some_of packets = map (λ packet. Some packet) packets
@@ -328,40 +288,34 @@ length_some (p ∷ packets) = ap suc (length_some packets)
 is_later : (n : ℕ) → (suc n == 0) ≡ false
 is_later n = grind (arith, nat_tests)
 
--- a receive after others doesn't wait
-pub later_waits : (place : ℕ) (waits : Bool) → false ≡ ((place + 1 == 0) && waits)
-later_waits place waits =
-    let next : place + 1 ≡ suc place = omega arith in
-    sym (ap (λ n. (n == 0) && waits) next ∙ ap (λ b. b && waits) (is_later place))
-
 -- the first receive waits or doesn't, and one after others doesn't
-hearings_more : (waits : Bool) (xs : List (Option (List ℕ))) (x : Option (List ℕ)) → hearings_from waits (xs ++ x ∷ []) ≡ hearings_from waits xs ++ new_hearing ((length xs == 0) && waits) x ∷ []
-hearings_more waits [] x = refl
-hearings_more waits (y ∷ ys) x =
-    let rest : map (λ (found : Option (List ℕ)). new_hearing false found) (ys ++ x ∷ []) ≡ map (λ (found : Option (List ℕ)). new_hearing false found) ys ++ new_hearing false x ∷ [] =
-    map-append (λ (found : Option (List ℕ)). new_hearing false found) ys (x ∷ []) in
-    let no : ((length (y ∷ ys) == 0) && waits) ≡ false = ap (λ b. b && waits) (is_later (length ys)) in
-    ap (λ l. new_hearing waits y ∷ l) rest
-    ∙ ap (λ b. new_hearing waits y ∷ (map (λ (found : Option (List ℕ)). new_hearing false found) ys ++ new_hearing b x ∷ [])) (sym no)
+hearings_more : (sleep : Sleep) (xs : List (Option (List ℕ))) (x : Option (List ℕ)) → hearings_from sleep (xs ++ x ∷ []) ≡ hearings_from sleep xs ++ new_hearing (sleep_at (length xs) sleep) x ∷ []
+hearings_more sleep [] x = refl
+hearings_more sleep (y ∷ ys) x =
+    let rest : map (λ (found : Option (List ℕ)). new_hearing No found) (ys ++ x ∷ []) ≡ map (λ (found : Option (List ℕ)). new_hearing No found) ys ++ new_hearing No x ∷ [] =
+    map-append (λ (found : Option (List ℕ)). new_hearing No found) ys (x ∷ []) in
+    let no : sleep_at (length (y ∷ ys)) sleep ≡ No = ap (λ b. if b then sleep else No) (is_later (length ys)) in
+    ap (λ l. new_hearing sleep y ∷ l) rest
+    ∙ ap (λ b. new_hearing sleep y ∷ (map (λ (found : Option (List ℕ)). new_hearing No found) ys ++ new_hearing b x ∷ [])) (sym no)
 
 packet_last : (s : SenderState) (packets : List (List ℕ)) (packet : List ℕ) → fold sender_on_packet s (packets ++ packet ∷ []) ≡ sender_on_packet (fold sender_on_packet s packets) packet
 packet_last s [] packet = refl
 packet_last s (p ∷ packets) packet = packet_last (sender_on_packet s p) packets packet
 
-first_at : (waits : Bool) (packets : List (List ℕ)) (place : ℕ) (now : Bool) → length packets ≡ place → now ≡ ((place == 0) && waits)
-    → now ≡ ((length (some_of packets) == 0) && waits)
-first_at waits packets place now count is = is ∙ ap (λ n. (n == 0) && waits) (sym (length_some packets ∙ count))
+first_at : (sleep : Sleep) (packets : List (List ℕ)) (place : ℕ) (now : Sleep) → length packets ≡ place → now ≡ sleep_at place sleep
+    → now ≡ sleep_at (length (some_of packets)) sleep
+first_at sleep packets place now count is = is ∙ ap (λ n. sleep_at n sleep) (sym (length_some packets ∙ count))
 
 -- one more packet was received
-pub hearing_more : (waits : Bool) (old mid new : EndsView) (s t u : SenderState) (place : ℕ) (packet : List ℕ) (now : Bool)
-    → Hearing waits old mid s t place → now ≡ ((place == 0) && waits)
+pub hearing_more : (sleep : Sleep) (old mid new : EndsView) (s t u : SenderState) (place : ℕ) (packet : List ℕ) (now : Sleep)
+    → Hearing sleep old mid s t place → now ≡ sleep_at place sleep
     → TellsMore mid.heard new.heard (new_hearing now (Some packet) ∷ []) → new ≡ record mid { heard = new.heard } → u ≡ sender_on_packet t packet
-    → Hearing waits old new s u (place + 1)
-hearing_more waits old mid new s t u place packet now h first heard same core =
+    → Hearing sleep old new s u (place + 1)
+hearing_more sleep old mid new s t u place packet now h first heard same core =
     let all : some_of (h.packets ++ packet ∷ []) ≡ some_of h.packets ++ Some packet ∷ [] = map-append (λ (x : List ℕ). Some x) h.packets (packet ∷ []) in
-    let hears : hearings_from waits (some_of (h.packets ++ packet ∷ [])) ≡ hearings_from waits (some_of h.packets) ++ new_hearing now (Some packet) ∷ [] =
-    ap (hearings_from waits) all ∙ hearings_more waits (some_of h.packets) (Some packet)
-    ∙ ap (λ b. hearings_from waits (some_of h.packets) ++ new_hearing b (Some packet) ∷ []) (sym (first_at waits h.packets place now h.count first)) in
+    let hears : hearings_from sleep (some_of (h.packets ++ packet ∷ [])) ≡ hearings_from sleep (some_of h.packets) ++ new_hearing now (Some packet) ∷ [] =
+    ap (hearings_from sleep) all ∙ hearings_more sleep (some_of h.packets) (Some packet)
+    ∙ ap (λ b. hearings_from sleep (some_of h.packets) ++ new_hearing b (Some packet) ∷ []) (sym (first_at sleep h.packets place now h.count first)) in
     record {
       packets = h.packets ++ packet ∷ [];
       count = omega (arith, length-append h.packets (packet ∷ []), h.count);
@@ -371,17 +325,17 @@ hearing_more waits old mid new s t u place packet now h first heard same core =
     }
 
 -- a receive returned nothing
-pub hearing_quiet : (waits : Bool) (old mid new : EndsView) (s t : SenderState) (place : ℕ) (now : Bool)
-    → Hearing waits old mid s t place → place < 64 → now ≡ ((place == 0) && waits)
+pub hearing_quiet : (sleep : Sleep) (old mid new : EndsView) (s t : SenderState) (place : ℕ) (now : Sleep)
+    → Hearing sleep old mid s t place → place < 64 → now ≡ sleep_at place sleep
     → TellsMore mid.heard new.heard (new_hearing now None ∷ []) → new ≡ record mid { heard = new.heard }
-    → (packets : List (List ℕ)) × HasHeard waits old new s t packets
-hearing_quiet waits old mid new s t place now h below first heard same =
+    → (packets : List (List ℕ)) × HasHeard sleep old new s t packets
+hearing_quiet sleep old mid new s t place now h below first heard same =
     let fewer : length h.packets < 64 = omega (arith, h.count, below) in
     let all : receives_of h.packets ≡ some_of h.packets ++ None ∷ [] =
     ap (λ b. some_of h.packets ++ (if b then None ∷ [] else [])) (lt_true (length h.packets) 64 fewer) in
-    let hears : hearings_from waits (receives_of h.packets) ≡ hearings_from waits (some_of h.packets) ++ new_hearing now None ∷ [] =
-    ap (hearings_from waits) all ∙ hearings_more waits (some_of h.packets) None
-    ∙ ap (λ b. hearings_from waits (some_of h.packets) ++ new_hearing b None ∷ []) (sym (first_at waits h.packets place now h.count first)) in (
+    let hears : hearings_from sleep (receives_of h.packets) ≡ hearings_from sleep (some_of h.packets) ++ new_hearing now None ∷ [] =
+    ap (hearings_from sleep) all ∙ hearings_more sleep (some_of h.packets) None
+    ∙ ap (λ b. hearings_from sleep (some_of h.packets) ++ new_hearing b None ∷ []) (sym (first_at sleep h.packets place now h.count first)) in (
       h.packets,
       record {
         few = omega (arith, fewer);
@@ -392,58 +346,150 @@ hearing_quiet waits old mid new s t place now h below first heard same =
     )
 
 -- 64 packets were received
-pub hearing_full : (waits : Bool) (old now : EndsView) (s t : SenderState) (place : ℕ) → Hearing waits old now s t place → place ≡ 64
-    → (packets : List (List ℕ)) × HasHeard waits old now s t packets
-hearing_full waits old now s t place h end =
+pub hearing_full : (sleep : Sleep) (old now : EndsView) (s t : SenderState) (place : ℕ) → Hearing sleep old now s t place → place ≡ 64
+    → (packets : List (List ℕ)) × HasHeard sleep old now s t packets
+hearing_full sleep old now s t place h end =
     let full : length h.packets ≡ 64 = h.count ∙ end in
     let all : receives_of h.packets ≡ some_of h.packets =
     ap (λ b. some_of h.packets ++ (if b then None ∷ [] else [])) (lt_false (length h.packets) 64 (omega (arith, full))) ∙ append-nil (some_of h.packets) in (
       h.packets,
       record {
         few = omega (arith, full);
-        heard = subst (TellsMore old.heard now.heard) (sym (ap (hearings_from waits) all)) h.heard;
+        heard = subst (TellsMore old.heard now.heard) (sym (ap (hearings_from sleep) all)) h.heard;
         same = h.same;
         core = h.core;
       },
     )
 
--- a turn, after its start
-pub turned : (w : SenderWorker) (most room : ℕ) (old told mid new : EndsView) (p heard ready acting left : SenderState) (given : Given) (in_contact : Bool) (missing again : List ℕ) (action : Option (OutAction (List ℕ)))
-    → HasHeard (waits_first p.moved p.core) old told p heard given.packets
-    → TellsMore told.handed mid.handed ((worker.Sender w.hop, Heard, given.heard) ∷ [])
-    → mid ≡ record told { handed = mid.handed }
-    → in_contact ≡ is_open w.plan w.hop given.heard.now → ready ≡ on_moment heard in_contact given.heard.since
-    → room ≡ send_room ready given.heard.since
-    → missing ≡ repeats ready.pace (repeat_count most room) given.heard.since
-    → again ≡ again_numbers ready.pace room given.heard.since missing
-    → acting ≡ record ready { core = (sending_step ready.core (Turn (nat_lt (length again) room))).0; moved = false }
-    → action ≡ (sending_step ready.core (Turn (nat_lt (length again) room))).1
-    → Did mid new left (sender_on_action w most room given.heard.now given.made acting again action) → Did old new left (sender_done w most p given)
-turned w most room old told mid new p heard ready acting left given in_contact missing again action hears at quiet opening moment roomy misses adds acts named did =
-    let packets = take 64 given.packets in
-    let whole : given.packets ≡ packets = sym (take_all 64 given.packets (omega (arith, hears.few))) in
-    let since = given.heard.since in
-    let first = fold sender_on_packet p packets in
-    let next : SenderState = on_moment first (is_open w.plan w.hop given.heard.now) since in
-    let heard_is : heard ≡ first = hears.core ∙ ap (fold sender_on_packet p) whole in
-    let ready_is : ready ≡ next = moment ∙ (λ i. on_moment (heard_is i) (opening i) since) in
-    let room_is : room ≡ send_room next since = roomy ∙ ap (λ r. send_room r since) ready_is in
-    let missing_is : missing ≡ repeats next.pace (repeat_count most (send_room next since)) since =
-    misses ∙ (λ i. repeats (ready_is i).pace (repeat_count most (room_is i)) since) in
-    let again_is = adds ∙ (λ i. again_numbers (ready_is i).pace (room_is i) since (missing_is i)) in
-    let acting_is = acts ∙ (λ i. record (ready_is i) { core = (sending_step (ready_is i).core (Turn (nat_lt (length (again_is i)) (room_is i)))).0; moved = false }) in
-    let action_is = named ∙ (λ i. (sending_step (ready_is i).core (Turn (nat_lt (length (again_is i)) (room_is i)))).1) in
-    let rest : Did mid new left (sender_acts w most (send_room next since) next given) =
-    subst (Did mid new left) (λ i. sender_on_action w most (room_is i) given.heard.now given.made (acting_is i) (again_is i) (action_is i)) did in
-    let same : mid.heard ≡ told.heard = ap (λ t. t.heard) quiet in
-    let hearing_is : TellsMore old.heard mid.heard (hearings_from (waits_first p.moved p.core) (receives_of packets)) =
-    subst (λ x. TellsMore old.heard x (hearings_from (waits_first p.moved p.core) (receives_of packets))) (sym same)
-    (subst (λ l. TellsMore old.heard told.heard (hearings_from (waits_first p.moved p.core) (receives_of l))) whole hears.heard) in
-    let moment_is : TellsMore old.handed mid.handed ((worker.Sender w.hop, Heard, given.heard) ∷ []) =
-    subst (λ x. TellsMore x mid.handed ((worker.Sender w.hop, Heard, given.heard) ∷ [])) (ap (λ t. t.handed) hears.same) at in
-    let both : mid ≡ record old { heard = mid.heard; handed = mid.handed } =
-    quiet ∙ (λ i. record (hears.same i) { handed = mid.handed }) ∙ (λ i. record old { heard = sym same i; handed = mid.handed }) in
-    did_hear old mid new left _ (worker.Sender w.hop) (waits_first p.moved p.core) packets given.heard hearing_is moment_is both rest
+pub one_call_at_least : (c : Calls) → HasCallRoom c → 1 ≤ c.most
+one_call_at_least c (inl many) = omega (arith, many.0)
+one_call_at_least c (inr one) = omega (arith, one.0)
+
+-- the first half of a turn, after its start
+pub requested : (w : SenderWorker) (most : ℕ) (old told new : EndsView) (p heard ready after : SenderState) (c : Calls) (start : Go) (packets : List (List ℕ)) (go : Go) (in_contact : Bool)
+    → HasHeard (sender_sleep w p start) old told p heard packets
+    → TellsMore told.handed new.handed ((worker.Sender w.hop, Heard, go) ∷ [])
+    → new ≡ record told { handed = new.handed }
+    → in_contact ≡ is_open w.plan w.hop go.now → ready ≡ on_moment heard in_contact go.since
+    → after ≡ (core_requests most (send_room ready go.since) go.since ready).state
+    → AreListed w go.now c (core_requests most (send_room ready go.since) go.since ready).calls
+    → HasRequested w most old new p after c start packets go
+requested w most old told new p heard ready after c start packets go in_contact hears at quiet opening moment state calls =
+    let same : new.heard ≡ told.heard = ap (λ t. t.heard) quiet in
+    let ready_is : ready ≡ on_moment (fold sender_on_packet p packets) (is_open w.plan w.hop go.now) go.since =
+    moment ∙ (λ i. on_moment (hears.core i) (opening i) go.since) in
+    record {
+      few = hears.few;
+      heard = subst (λ h. TellsMore old.heard h (hearings_from (sender_sleep w p start) (receives_of packets))) (sym same) hears.heard;
+      handed = subst (λ h. TellsMore h new.handed ((worker.Sender w.hop, Heard, go) ∷ [])) (ap (λ t. t.handed) hears.same) at;
+      same = quiet ∙ (λ i. record (hears.same i) { handed = new.handed }) ∙ (λ i. record old { heard = sym same i; handed = new.handed });
+      state = state ∙ ap (λ (q : SenderState). (core_requests most (send_room q go.since) go.since q).state) ready_is;
+      calls = subst (λ (q : SenderState). AreListed w go.now c (core_requests most (send_room q go.since) go.since q).calls) ready_is calls;
+    }
+
+-- a turn, from its first half on
+turned : (w : SenderWorker) (most : ℕ) (old mid new : EndsView) (p between left : SenderState) (c : Calls) (given : Given)
+    → HasRequested w most old mid p between c given.start given.packets given.heard
+    → Did mid new left (sender_on_calls w given.heard.now given.made between (sender_requests w most p given.packets given.heard).calls)
+    → Did old new left (sender_done w most p given)
+turned w most old mid new p between left c given h did =
+    let whole : given.packets ≡ take 64 given.packets = sym (take_all 64 given.packets (omega (arith, h.few))) in
+    let first = sender_requests w most p given.packets given.heard in
+    let rest : Did mid new left (sender_on_calls w given.heard.now given.made first.state first.calls) =
+    subst (λ (q : SenderState). Did mid new left (sender_on_calls w given.heard.now given.made q first.calls)) h.state did in
+    let all = did_hear old mid new left (sender_on_calls w given.heard.now given.made first.state first.calls) (worker.Sender w.hop) (sender_sleep w p given.start) given.packets given.heard
+    h.heard h.handed h.same rest in
+    subst (λ (l : List (List ℕ)). Did old new left (with_hearings (worker.Sender w.hop) (sender_sleep w p given.start) l given.heard
+    (sender_on_calls w given.heard.now given.made (sender_requests w most p l given.heard).state (sender_requests w most p l given.heard).calls))) whole all
+
+pub none_of : {A : Type 0} (l : List A) → length l ≡ 0 → l ≡ []
+none_of [] e = refl
+none_of (x ∷ l) e = absurd (omega (arith, e))
+
+-- a turn without calls
+pub turned_none : (w : SenderWorker) (most : ℕ) (old new : EndsView) (p left : SenderState) (c : Calls) (start : Go) (packets : List (List ℕ)) (heard : Go)
+    → HasRequested w most old new p left c start packets heard → length (asks_in c) ≡ 0
+    → (given : Given) × (given.start ≡ start) × Did old new left (sender_done w most p given)
+turned_none w most old new p left c start packets heard h none =
+    let given : Given = record { start = start; packets = packets; heard = heard; made = no_call } in
+    let calls : (sender_requests w most p packets heard).calls ≡ [] =
+    h.calls.each ∙ ap (calls_from c.again.items (out_action_bytes c.named)) none in
+    let did : Did new new left (sender_on_calls w heard.now no_call left (sender_requests w most p packets heard).calls) =
+    subst (λ l. Did new new left (sender_on_calls w heard.now no_call left l)) (sym calls) (did_nothing new left) in (
+      given,
+      refl,
+      turned w most old new new p left left c given h did,
+    )
+
+-- the same turn, step after step
+pub same_turns : (c d e : Calls) → IsSameTurn c d → IsSameTurn d e → IsSameTurn c e
+same_turns c d e first next = record {
+  most = next.most ∙ first.most;
+  again = next.again ∙ first.again;
+  named = next.named ∙ first.named;
+  room = next.room;
+}
+
+-- fewer numbers from that of a Fetch on fit as well
+pub has_fewer : (named : OutAction (List ℕ)) (more less : ℕ) → less ≤ more → HasNumbers named more → HasNumbers named less
+has_fewer action.AskWindow more less few has = tt
+has_fewer (action.Release number) more less few has = tt
+has_fewer (action.Fetch number) more less few has = omega (arith, few, has)
+has_fewer action.Pick more less few has = tt
+has_fewer (action.Send m) more less few has = tt
+
+answer_count : (result : Result (Unit {0}) BatchError) (answers : List Answer) (count : ℕ) → OnOk result (length answers ≡ count) → IfErr result (λ _. answers ≡ []) → length answers ≤ count
+answer_count (Ok unit) answers count each none = omega (arith, each)
+answer_count (Err error) answers count each none = omega (arith, ap length none)
+
+-- those of the calls that were answered
+pub answers_fit : (c d : Calls) (result : Result (Unit {0}) BatchError) → IsSameTurn c d → HasNumbers (out_action_bytes c.named) (length (asks_in c) - length c.again.items)
+    → OnOk result (length (answers_in d) ≡ length (asks_in c)) → IfErr result (λ _. answers_in d ≡ [])
+    → HasNumbers (out_action_bytes d.named) (length (answers_in d) - length d.again.items)
+answers_fit c d result same fits each none =
+    let few = answer_count result (answers_in d) (length (asks_in c)) each none in
+    let first : length d.again.items ≡ length c.again.items = λ i. length (same.again i).items in
+    has_fewer (out_action_bytes d.named) (length (asks_in c) - length c.again.items) (length (answers_in d) - length d.again.items) (omega (arith, few, first))
+    (subst (λ n. HasNumbers n (length (asks_in c) - length c.again.items)) (λ i. out_action_bytes (sym same.named i)) fits)
+
+events_are : (c d : Calls) (calls : List (OutAction (List ℕ))) (result : Result (Unit {0}) BatchError) → IsSameTurn c d
+    → calls ≡ calls_from c.again.items (out_action_bytes c.named) (length (asks_in c)) → OnOk result (length (answers_in d) ≡ length (asks_in c))
+    → outcome_events d result ≡ sender_events calls (batch_outcome result (answers_in d))
+events_are c d calls (Ok unit) same each answered =
+    ap (λ l. sender_events l (Ok (answers_in d)))
+    ((λ i. calls_from (same.again i).items (out_action_bytes (same.named i)) (answered i)) ∙ sym each)
+events_are c d calls (Err error) same each answered = refl
+
+coming_cases : (first : Option Answer) (others : List Answer) → cons_option first (reverse others) ≡ [] → cons_option first others ≡ []
+coming_cases (Some answer) others none = absurd (cc)
+coming_cases None others none = sym (reverse-reverse others) ∙ ap reverse none
+
+-- once the last answer was taken there is none
+pub coming_none : (c : Calls) → coming_in c ≡ [] → answers_in c ≡ []
+coming_none c none = coming_cases c.answer c.answers.items none
+
+-- the calls of a turn were submitted, and answered or not
+pub turned_asked : (w : SenderWorker) (most : ℕ) (old mid called_at new : EndsView) (p between left : SenderState) (c d : Calls) (start : Go) (packets : List (List ℕ)) (heard : Go)
+    (result : Result (Unit {0}) BatchError) (before after : Go)
+    → HasRequested w most old mid p between c start packets heard → 0 < length (asks_in c)
+    → TellsMore mid.asked called_at.asked ((asks_in c, batch_outcome result (answers_in d)) ∷ [])
+    → TellsMore mid.handed called_at.handed ((worker.Sender w.hop, Call, before) ∷ (worker.Sender w.hop, Answered, after) ∷ [])
+    → called_at ≡ record mid { asked = called_at.asked; handed = called_at.handed }
+    → IsSameTurn c d → OnOk result (length (answers_in d) ≡ length (asks_in c))
+    → HasHandedEvent (is_open w.plan w.hop after.now) after.since called_at new between left (outcome_events d result)
+    → (given : Given) × (given.start ≡ start) × Did old new left (sender_done w most p given)
+turned_asked w most old mid called_at new p between left c d start packets heard result before after h some asked around quiet same answered told =
+    let made : Made = record { outcome = batch_outcome result (answers_in d); before = before; after = after } in
+    let given : Given = record { start = start; packets = packets; heard = heard; made = made } in
+    let calls = (sender_requests w most p packets heard).calls in
+    let some_calls : 0 < length calls =
+    omega (arith, some, ap length h.calls.each, length_calls c.again.items (out_action_bytes c.named) (length (asks_in c))) in
+    let events = subst (HasHandedEvent (is_open w.plan w.hop after.now) after.since called_at new between left) (events_are c d calls result same h.calls.each answered) told in (
+      given,
+      refl,
+      turned w most old mid new p between left c given h
+          (called w mid called_at new heard.now made between left calls (asks_in c) (is_open w.plan w.hop after.now) some_calls h.calls.asks asked around quiet refl events),
+    )
 
 -- the effects of a sender of a hop that exists, or doesn't
 abbrev sent_by : ContactPlan → Params → HopId → EndsView → EndsView → Option Neighbour → Type 0

@@ -7,7 +7,7 @@ use Rattle.rly_hop.specs.declared.message.Message.{Message}
 use Rattle.rly_hop.specs.declared.message.Message.TheVariants as message
 use Rattle.rly_plan.specs.ContactPlan.{is_open}
 use Rattle.rly_threads_workers.specs.declared.sender_state.SenderState.{SenderState}
-use Rattle.rly_threads_workers.specs.SenderTurns.{SenderWorker, sender_acts, sender_on_packet, sender_turn}
+use Rattle.rly_threads_workers.specs.SenderTurns.{SenderWorker, core_requests, sender_on_calls, sender_on_packet, sender_turn}
 use Rattle.rly_threads_workers.specs.SenderState.{on_moment, send_room, sender_on_hearing}
 use Rattle.rly_threads_workers.specs.Strays.{concerns_flight, is_on_flight}
 use Rattle.rly_link.specs.LinkHistory.{message_in}
@@ -31,7 +31,8 @@ without p (first ∷ before) later packet is = without (sender_on_packet p first
 abbrev pub acts_after : SenderWorker → ℕ → Given → SenderState → Done SenderState
 acts_after w most given heard =
     let ready = on_moment heard (is_open w.plan w.hop given.heard.now) given.heard.since in
-    sender_acts w most (send_room ready given.heard.since) ready given
+    let first = core_requests most (send_room ready given.heard.since) given.heard.since ready in
+    sender_on_calls w given.heard.now given.made first.state first.calls
 
 -- the same packets without this one give the same state
 states_are : (p : SenderState) (before later all : List (List ℕ)) (packet : List ℕ) → all ≡ before ++ packet ∷ later → length all ≤ 64 → length (before ++ later) ≤ 64

@@ -1,10 +1,9 @@
 -- Helpers of private functions: the steps of a turn, and the replies of a desk in memory.
-use Rattle.std.specs.Prelude.{◌≡◌, ◌⊎◌, ◌≤◌, ◌<◌, ◌+◌, ◌^◌, ◌++◌, ℕ, Bool, List, [], fold, length, map, max}
-use Rattle.std.specs.Prelude.{vec_capacity, Option, Some, None, Ok, Err, ⊤}
-use Rattle.std.specs.List.{flat_map}
-use Rattle.rly_core.specs.declared.refusal.Refusal.TheVariants as refusal
+use Rattle.std.specs.Prelude.{◌≡◌, ◌⊎◌, ◌≤◌, ◌<◌, ◌+◌, ◌-◌, ◌^◌, ◌∷◌, ◌++◌, ℕ, Bool, List, [], fold, length, map, max, reverse}
+use Rattle.std.specs.Prelude.{vec_capacity, Option, Some, None, Result, ⊤}
+use Rattle.std.specs.List.{cons_option, filter_map}
 use Rattle.rly_core.specs.declared.refusal.Refusal.TheVariants.{OutOfMemory}
-use Rattle.rly_line.specs.declared.call_error.CallError.TheVariants as error
+use Rattle.rly_line.specs.declared.call_error.BatchError.{BatchError}
 use Rattle.rly_machine.specs.Ask.{ask_step}
 use Rattle.rly_machine.specs.declared.call.Answer.{Answer}
 use Rattle.rly_machine.specs.declared.command.Ask.{Ask}
@@ -14,21 +13,22 @@ use Rattle.rly_machine.specs.State.{State}
 use Rattle.rly_hop.specs.declared.sending.event.OutAction.{OutAction}
 use Rattle.rly_hop.specs.declared.sending.event.OutAction.TheVariants as action
 use Rattle.rly_hop.specs.declared.sending.event.OutEvent.{OutEvent}
-use Rattle.rly_hop.specs.declared.sending.event.OutEvent.TheVariants as event
 use Rattle.rly_hop.specs.Receiver.{Receiver}
-use Rattle.rly_hop.specs.Sender.{Sender}
+use Rattle.rly_hop.specs.Payloads.{out_action_bytes}
 use Rattle.rly_threads_workers.specs.declared.receiver.Takes.{Takes}
-use Rattle.rly_threads_workers.specs.declared.sender.Calls.{Calls}
+use Rattle.rly_threads_workers.specs.declared.calls.Calls.{Calls}
 use Rattle.rly_link.specs.declared.turn.Go.{Go}
 use Rattle.rly_link.specs.declared.turn.Point.TheVariants as point
 use Rattle.rly_link.specs.declared.turn.Worker.TheVariants as worker
-use Rattle.rly_threads_workers.specs.DeskExchanges.{CallOutcome}
+use Rattle.rly_threads_workers.specs.DeskExchanges.{batch_outcome}
 use Rattle.rly_link.specs.LinkHistory.{TellsMore}
 use Rattle.rly_threads_workers.specs.ReceiverTurns.{Arrival, ReceiverWorker, WaitingCore, NamedTake, answers_sent}
-use Rattle.rly_threads_workers.specs.ReceiverTurns.{hearings, receives, core_of_take, wakings, takes_of_packet}
+use Rattle.rly_threads_workers.specs.ReceiverTurns.{hearings, receives, core_of_take, receiver_requests, wakings}
 use Rattle.rly_threads_workers.specs.declared.sender_state.SenderState.{SenderState}
-use Rattle.rly_threads_workers.specs.SenderTurns.{event_in, after_out_event, sender_on_packet, sender_sent}
+use Rattle.rly_threads_workers.specs.SenderTurns.{SenderWorker, after_out_event, calls_from, named_ask, sender_events}
+use Rattle.rly_threads_workers.specs.SenderTurns.{sender_on_packet, sender_requests, sender_sent, sender_sleep}
 use Rattle.rly_threads_workers.specs.Runs.{EndsView}
+use Rattle.rly_link.specs.declared.link.Sleep.{Sleep}
 use Rattle.rly_threads_workers.specs.Turns.{Done, hearings_from, receives_of}
 
 -- a worker did this, and has this state now
@@ -80,7 +80,7 @@ pub record HasGathered (w : ReceiverWorker) (r : Receiver) (old new : EndsView) 
   pub handed : TellsMore old.handed new.handed
       (map (λ x. (worker.Receiver w.peer, point.Heard, x.1)) (receives before.most packets quiet))
   pub same : new ≡ record old { heard = new.heard; handed = new.handed }
-  pub more : HasMore before after (flat_map (takes_of_packet w before.most r) packets)
+  pub more : HasMore before after (receiver_requests w before.most r packets)
 
 -- a worker woke senders and sent messages as its cores request on these answers
 pub record HasAnswered (r : Receiver) (old new : EndsView) (taken : List (WaitingCore × Answer)) : Type 0 where
@@ -89,17 +89,41 @@ pub record HasAnswered (r : Receiver) (old new : EndsView) (taken : List (Waitin
   pub same : new ≡ record old { sent = new.sent; woken = new.woken }
 
 -- a worker received these packets, and then perhaps none, and passed the messages in them on
-pub record HasHeard (waits : Bool) (old new : EndsView) (before after : SenderState) (packets : List (List ℕ)) : Type 0 where
+pub record HasHeard (sleep : Sleep) (old new : EndsView) (before after : SenderState) (packets : List (List ℕ)) : Type 0 where
   pub few : length packets ≤ 64
-  pub heard : TellsMore old.heard new.heard (hearings_from waits (receives_of packets))
+  pub heard : TellsMore old.heard new.heard (hearings_from sleep (receives_of packets))
   pub same : new ≡ record old { heard = new.heard }
   pub core : after ≡ fold sender_on_packet before packets
 
--- there is room for 64 calls together, or calls are made one at a time; and there is none
+-- the asks of a sender's calls, in order, and their answers: in lists, or one alone
+abbrev pub asks_in : Calls → List Ask
+asks_in c = cons_option c.ask c.asks.items
+
+abbrev pub answers_in : Calls → List Answer
+answers_in c = cons_option c.answer c.answers.items
+
+-- the answers that weren't taken yet, once the list is reversed
+abbrev pub coming_in : Calls → List Answer
+coming_in c = cons_option c.answer (reverse c.answers.items)
+
+-- there is room for 64 calls together, or calls are made one at a time, without lists
+abbrev pub HasCallRoom : Calls → Type 0
+HasCallRoom c =
+    ((c.most ≡ 64) × (64 ≤ vec_capacity c.asks) × (64 ≤ vec_capacity c.answers) × (c.ask ≡ None) × (c.answer ≡ None))
+    ⊎ ((c.most ≡ 1) × (c.asks.items ≡ []) × (c.answers.items ≡ []))
+
+-- there is no call
 pub record IsIdle (c : Calls) : Type 0 where
-  pub room : ((c.most ≡ 64) × (64 ≤ vec_capacity c.asks) × (64 ≤ vec_capacity c.answers)) ⊎ (c.most ≡ 1)
-  pub asks : c.asks.items ≡ []
-  pub answers : c.answers.items ≡ []
+  pub room : HasCallRoom c
+  pub asks : asks_in c ≡ []
+  pub answers : answers_in c ≡ []
+
+-- other calls of the same turn, with the same room
+pub record IsSameTurn (old new : Calls) : Type 0 where
+  pub most : new.most ≡ old.most
+  pub again : new.again ≡ old.again
+  pub named : new.named ≡ old.named
+  pub room : HasCallRoom new
 
 -- an action is a call
 abbrev pub IsCall : OutAction (List ℕ) → Type 0
@@ -117,11 +141,14 @@ HasNumbers (action.Fetch number) count = number + count < 2 ^ 64
 HasNumbers action.Pick count = ⊤
 HasNumbers (action.Send m) count = ⊤
 
--- the core's event for one call
-abbrev pub call_event : OutAction (List ℕ) → CallOutcome → OutEvent (List ℕ)
-call_event named (Ok a) = event_in named a.reply
-call_event named (Err (error.Closed back)) = event.Refused refusal.Closed
-call_event named (Err error.Lost) = event.Refused refusal.Lost
+-- These calls are to be submitted: their asks are there, in order, and what their answers are read by, and no answer.
+pub record AreListed (w : SenderWorker) (now : ℕ) (c : Calls) (calls : List (OutAction (List ℕ))) : Type 0 where
+  pub room : HasCallRoom c
+  pub asks : asks_in c ≡ filter_map (named_ask w now) calls
+  pub each : calls ≡ calls_from c.again.items (out_action_bytes c.named) (length (asks_in c))
+  pub few : length (asks_in c) ≤ c.most
+  pub numbers : HasNumbers (out_action_bytes c.named) (length (asks_in c) - length c.again.items)
+  pub answers : answers_in c ≡ []
 
 -- a core got these events at a moment, in order, and the messages that it then requested were sent
 pub record HasHandedEvent (in_contact : Bool) (at : ℕ) (old new : EndsView) (before after : SenderState)
@@ -129,6 +156,23 @@ pub record HasHandedEvent (in_contact : Bool) (at : ℕ) (old new : EndsView) (b
   pub core : after ≡ fold (after_out_event in_contact at) before told
   pub sent : TellsMore old.sent new.sent (sender_sent in_contact at before told)
   pub same : new ≡ record old { sent = new.sent }
+
+-- the core's events for the outcome of these calls
+abbrev pub outcome_events : Calls → Result (Unit {0}) BatchError → List (OutEvent (List ℕ))
+outcome_events c outcome =
+    sender_events (calls_from c.again.items (out_action_bytes c.named) (length (answers_in c)))
+    (batch_outcome outcome (answers_in c))
+
+-- A sender received these packets in the first half of a turn, and then perhaps none, and got the turn's tick. Its calls
+-- are listed.
+pub record HasRequested (w : SenderWorker) (most : ℕ) (old new : EndsView) (before after : SenderState) (c : Calls)
+    (start : Go) (packets : List (List ℕ)) (go : Go) : Type 0 where
+  pub few : length packets ≤ 64
+  pub heard : TellsMore old.heard new.heard (hearings_from (sender_sleep w before start) (receives_of packets))
+  pub handed : TellsMore old.handed new.handed ((worker.Sender w.hop, point.Heard, go) ∷ [])
+  pub same : new ≡ record old { heard = new.heard; handed = new.handed }
+  pub state : after ≡ (sender_requests w most before packets go).state
+  pub calls : AreListed w go.now c (sender_requests w most before packets go).calls
 
 -- the greater of two numbers, of those that are present
 abbrev pub greater : Option ℕ → Option ℕ → Option ℕ

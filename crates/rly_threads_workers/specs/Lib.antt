@@ -7,5 +7,6 @@ pub mod Memory
 pub mod HelpersTurns
 pub mod RateKept
 pub mod Strays
+pub mod Asleep
 pub mod DeskExchanges
 pub mod WorkerRuns

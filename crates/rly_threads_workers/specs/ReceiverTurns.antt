@@ -27,6 +27,7 @@ use Rattle.rly_link.specs.declared.turn.Point.TheVariants as point
 use Rattle.rly_link.specs.declared.turn.Worker.TheVariants as worker
 use Rattle.rly_threads_workers.specs.DeskExchanges.{Asked, BatchOutcome}
 use Rattle.rly_link.specs.LinkHistory.{Handed, Hearing, new_hearing, message_in}
+use Rattle.rly_link.specs.declared.link.Sleep.TheVariants as sleep
 use Rattle.rly_threads_workers.specs.Turns.{Done, packets_of, with_start, woken_if}
 
 -- its peer, and the plan for the routes
@@ -111,7 +112,7 @@ receives most packets quiet =
 -- the first receive waits, and the others don't
 abbrev pub hearings : List (Option (List ℕ) × Go) → List Hearing
 hearings [] = []
-hearings (first ∷ others) = new_hearing true first.0 ∷ map (λ x. new_hearing false x.0) others
+hearings (first ∷ others) = new_hearing sleep.Woken first.0 ∷ map (λ x. new_hearing sleep.No x.0) others
 
 -- a Take that a core requested: that core, the hop of its datagram, and the ask
 pub record NamedTake : Type 0 where
@@ -217,11 +218,16 @@ takes_done w r heard takes given =
       woken = wakings taken;
     }
 
--- One turn, after its start, of at most this many packets. Each packet gets a core of its own, in this state.
+-- The first half of a turn, of at most this many packets: it ends with the Takes to submit. Each packet gets a core of its
+-- own, in this state.
+abbrev pub receiver_requests : ReceiverWorker → (most : ℕ) → Receiver → List Arrival → List NamedTake
+receiver_requests w most r packets = flat_map (takes_of_packet w most r) packets
+
+-- One turn, after its start, of at most this many packets. Its second half begins with the outcome of its Takes.
 abbrev pub receiver_done : ReceiverWorker → ℕ → Receiver → Arrivals → Done Receiver
 receiver_done w most r given =
     let packets = take most given.packets in
-    takes_done w r (receives most packets given.quiet) (flat_map (takes_of_packet w most r) packets) given
+    takes_done w r (receives most packets given.quiet) (receiver_requests w most r packets) given
 
 -- one turn
 abbrev pub receiver_turn : ReceiverWorker → ℕ → Receiver → Arrivals → Done Receiver

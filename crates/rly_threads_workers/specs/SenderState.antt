@@ -25,7 +25,8 @@ use Rattle.rly_threads_workers.specs.declared.sender_state.SenderState.{SenderSt
 abbrev pub first_sender_state : Sender → Params → ℕ → Option ℕ → SenderState
 first_sender_state core params resend rate = record {
   core = core;
-  moved = false;
+  drained = false;
+  failed = false;
   picks = 1;
   pace = first_control resend params.window (is_some rate);
   rate = option_map (λ r. first_bucket r (longest_message params.payload) 0) rate;

@@ -1,6 +1,6 @@
 -- A sending worker, turn by turn (docs/PROTOCOL.md, "The sending core").
-use Rattle.std.specs.Prelude.{ℕ, ◌+◌, ◌-◌, ◌==◌, min, max, nat_lt, List, [], ◌∷◌, ◌++◌, length, map, take, Bool, true}
-use Rattle.std.specs.Prelude.{false, not, ◌||◌, if◌then◌else◌, fold, slice_index_or, Option, Some, None, is_some, Ok, Err}
+use Rattle.std.specs.Prelude.{ℕ, ◌+◌, ◌-◌, ◌^◌, ◌==◌, min, max, nat_le, nat_lt, List, [], ◌∷◌, ◌++◌, length, map, take, Bool, true}
+use Rattle.std.specs.Prelude.{false, not, ◌||◌, ◌&&◌, if◌then◌else◌, fold, slice_index_or, Option, Some, None, is_some, option_map, Ok, Err}
 use Rattle.std.specs.List.{cons_option, filter_map, range_with_len, zip}
 use Rattle.rly_core.specs.declared.ids.HopId.{HopId}
 use Rattle.rly_core.specs.declared.refusal.Refusal.TheVariants as refusal
@@ -8,7 +8,6 @@ use Rattle.rly_hop.specs.declared.sending.event.OutAction.{OutAction}
 use Rattle.rly_hop.specs.declared.sending.event.OutAction.TheVariants as action
 use Rattle.rly_hop.specs.declared.sending.event.OutEvent.{OutEvent}
 use Rattle.rly_hop.specs.declared.sending.event.OutEvent.TheVariants as event
-use Rattle.rly_hop.specs.Sender.{Sender}
 use Rattle.rly_hop.specs.Sending.{sending_step, turn_action}
 use Rattle.rly_line.specs.declared.call_error.BatchError.{BatchError}
 use Rattle.rly_line.specs.declared.call_error.BatchError.TheVariants as error
@@ -19,14 +18,21 @@ use Rattle.rly_machine.specs.declared.command.Query.TheVariants as query
 use Rattle.rly_machine.specs.declared.reply.Reply.{Reply}
 use Rattle.rly_machine.specs.declared.reply.Reply.TheVariants as reply
 use Rattle.rly_hop_pacing.specs.CongestionControl.{ControlView, repeats, spare_number, unsent_count}
-use Rattle.rly_plan.specs.ContactPlan.{ContactPlan, is_open, link}
+use Rattle.rly_hop_pacing.specs.Moments.{sooner}
+use Rattle.rly_hop_pacing.specs.NextMoments.{next_moment, next_timeout}
+use Rattle.rly_hop_pacing.specs.Rates.{next_room, room_at}
+use Rattle.rly_hop_pacing.specs.declared.rate.Bucket.{Bucket}
+use Rattle.rly_link.specs.declared.link.Sleep.{Sleep}
+use Rattle.rly_link.specs.declared.link.Sleep.TheVariants as sleep
+use Rattle.rly_link.specs.declared.turn.Go.{Go}
+use Rattle.rly_plan.specs.ContactPlan.{ContactPlan, edge_wait, is_open, link}
 use Rattle.rly_threads_workers.specs.declared.sender_state.SenderState.{SenderState}
 use Rattle.rly_link.specs.declared.turn.Worker.TheVariants as worker
 use Rattle.rly_threads_workers.specs.DeskExchanges.{BatchOutcome}
 use Rattle.rly_threads_workers.specs.SenderState.{action_on, control_on_answer, control_on_named, let_out, on_moment}
 use Rattle.rly_threads_workers.specs.SenderState.{rate_after, send_room, sender_on_hearing}
 use Rattle.rly_link.specs.LinkHistory.{message_in}
-use Rattle.rly_threads_workers.specs.Turns.{Done, Given, Made, around_call, has_some, nothing_done}
+use Rattle.rly_threads_workers.specs.Turns.{Done, Given, Made, around_call, nothing_done}
 use Rattle.rly_threads_workers.specs.Turns.{packets_of, with_hearings, with_start}
 
 -- its hop, and the plan for the contacts of its link
@@ -129,19 +135,34 @@ abbrev pub sender_events : List (OutAction (List ℕ)) → BatchOutcome → List
 sender_events calls (Ok answers) = map (λ x. event_in x.0 x.1.reply) (zip calls answers)
 sender_events calls (Err error) = error_event error ∷ []
 
--- whether an answer by itself is progress: a window, or a datagram that was picked or released
-abbrev pub is_progress : OutEvent (List ℕ) → Bool
-is_progress (event.WindowIs first next) = true
-is_progress (event.Picked number) = true
-is_progress event.Released = true
-is_progress (event.Fetched number limit payload) = false
-is_progress event.Nothing = false
-is_progress event.Unchanged = false
-is_progress (event.Refused refusal) = false
-is_progress event.Other = false
-is_progress event.Timeout = false
-is_progress (event.Heard m) = false
-is_progress (event.Turn in_contact) = false
+-- whether an answer says that there is nothing to pick, and whether it is another refusal
+abbrev pub is_nothing : OutEvent (List ℕ) → Bool
+is_nothing event.Nothing = true
+is_nothing (event.WindowIs first next) = false
+is_nothing (event.Picked number) = false
+is_nothing event.Released = false
+is_nothing (event.Fetched number limit payload) = false
+is_nothing event.Unchanged = false
+is_nothing (event.Refused refusal.Empty) = true
+is_nothing (event.Refused _) = false
+is_nothing event.Other = false
+is_nothing event.Timeout = false
+is_nothing (event.Heard m) = false
+is_nothing (event.Turn in_contact) = false
+
+abbrev pub is_refusal : OutEvent (List ℕ) → Bool
+is_refusal (event.Refused refusal.Empty) = false
+is_refusal (event.Refused _) = true
+is_refusal event.Nothing = false
+is_refusal (event.WindowIs first next) = false
+is_refusal (event.Picked number) = false
+is_refusal event.Released = false
+is_refusal (event.Fetched number limit payload) = false
+is_refusal event.Unchanged = false
+is_refusal event.Other = false
+is_refusal event.Timeout = false
+is_refusal (event.Heard m) = false
+is_refusal (event.Turn in_contact) = false
 
 -- the packets of an action while a contact is open; none while it is closed
 abbrev pub sender_packets : Bool → Option (OutAction (List ℕ)) → List (List ℕ)
@@ -177,7 +198,8 @@ sent_on in_contact at p told = let_out p.rate (sender_packets in_contact (action
 abbrev pub after_out_event : Bool → ℕ → SenderState → OutEvent (List ℕ) → SenderState
 after_out_event in_contact at p told = record {
   core = (sending_step p.core told).0;
-  moved = p.moved || (is_progress told || has_some (sent_on in_contact at p told));
+  drained = p.drained || is_nothing told;
+  failed = p.failed || is_refusal told;
   picks = picks_after p.picks told;
   pace = control_on_named (control_on_answer p.pace told) (action_on p.core told) at;
   rate = rate_after p.rate (sender_packets in_contact (action_on p.core told)) at;
@@ -190,8 +212,8 @@ sender_sent in_contact at p [] = []
 sender_sent in_contact at p (told ∷ others) =
     sent_on in_contact at p told ++ sender_sent in_contact at (after_out_event in_contact at p told) others
 
--- The calls are submitted together. The core gets the answers, in order, and the messages that it then requests are
--- sent, if a contact is open by then.
+-- The second half of a turn: the calls are submitted together. The core gets the answers, in order, and the messages that
+-- it then requests are sent, if a contact is open by then.
 abbrev pub sender_on_calls : SenderWorker → ℕ → Made → SenderState → List (OutAction (List ℕ)) → Done SenderState
 sender_on_calls w now made p [] = nothing_done p
 sender_on_calls w now made p (first ∷ others) =
@@ -205,9 +227,57 @@ sender_on_calls w now made p (first ∷ others) =
       woken = [];
     }
 
--- whether a turn waits for its first packet: the one before made no progress, or the core can only receive
-abbrev pub waits_first : Bool → Sender → Bool
-waits_first moved core = not moved || not (is_some (turn_action core true))
+-- whether the core would send something new if it might: not after a Pick for which there was nothing
+abbrev pub wants_room : Bool → Option (OutAction (List ℕ)) → Bool
+wants_room drained None = false
+wants_room drained (Some action.Pick) = not drained
+wants_room drained (Some (action.Fetch number)) = true
+wants_room drained (Some action.AskWindow) = true
+wants_room drained (Some (action.Release number)) = true
+wants_room drained (Some (action.Send m)) = false
+
+-- The next moment at which there is something to do, of the Timeout's and the pace's. If that is now, but the rate lets
+-- nothing out: as soon as it does, or the Timeout comes.
+abbrev pub held_back : Option Bucket → (at : ℕ) → (timeout moment : Option ℕ) → Option ℕ
+held_back None at timeout moment = moment
+held_back (Some b) at timeout None = None
+held_back (Some b) at timeout (Some moment) =
+    if nat_le moment at && (room_at b at == 0) then sooner timeout (Some (next_room b at)) else Some moment
+
+-- the moment at which it has something to send, or a Timeout, if no packet comes
+abbrev pub work_moment : SenderState → ℕ → Option ℕ
+work_moment p at =
+    held_back p.rate at (next_timeout p.pace at)
+    (next_moment p.pace at (wants_room p.drained (turn_action p.core true)))
+
+-- whether nothing waits, as far as it was told, and nothing is in flight
+abbrev pub is_at_rest : SenderState → Bool
+is_at_rest p = p.drained && p.core.first == p.core.next
+
+-- the moment of the monotonic clock at which it looks at its contact again: never while it rests
+abbrev pub edge_moment : SenderWorker → SenderState → Go → Option ℕ
+edge_moment w p last =
+    if is_at_rest p then None
+    else option_map (λ wait. min (last.since + wait) (2 ^ 64 - 1)) (edge_wait w.plan w.hop last.now)
+
+-- whether its contact began or ended since its last turn
+abbrev pub has_changed : SenderWorker → SenderState → Go → Bool
+has_changed w p last =
+    if p.pace.is_open then not (is_open w.plan w.hop last.now) else is_open w.plan w.hop last.now
+
+-- until a moment, at another one: not at all if it has come
+abbrev pub sleep_until : (at : ℕ) → Option ℕ → Sleep
+sleep_until at None = sleep.Woken
+sleep_until at (Some moment) = if nat_le moment at then sleep.No else sleep.Until moment
+
+-- How long a turn waits for its first packet, by the last tick: ten milliseconds after a call that was refused; not at
+-- all if the core has a call to make in any case, or its contact has changed; else until it has something to do, or its
+-- contact changes. While it rests, until it is woken.
+abbrev pub sender_sleep : SenderWorker → SenderState → Go → Sleep
+sender_sleep w p last =
+    if p.failed then sleep.Until (min (last.since + 10000) (2 ^ 64 - 1))
+    else (if is_some (turn_action p.core false) || has_changed w p last then sleep.No
+    else sleep_until last.since (sooner (work_moment p last.since) (edge_moment w p last)))
 
 -- how many numbers may be sent again in a turn of at most this many calls, so that one is left for the core
 abbrev pub repeat_count : ℕ → ℕ → ℕ
@@ -218,31 +288,40 @@ abbrev pub again_numbers : ControlView → (room at : ℕ) → List ℕ → List
 again_numbers pace room at [] = if nat_lt 0 room then cons_option (spare_number pace at) [] else []
 again_numbers pace room at (first ∷ others) = first ∷ others
 
--- The calls for the numbers to send again and for the core's request, if this many messages may be sent.
-abbrev pub sender_on_action : SenderWorker → ℕ → ℕ → ℕ → Made → SenderState → List ℕ → Option (OutAction (List ℕ))
-    → Done SenderState
-sender_on_action w most room now made p again named =
-    sender_on_calls w now made p
-    (calls_from again (or_pick named) (length again + core_count (most - length again) (room - length again) p named))
+-- The calls for the numbers to send again and for the core's request, in order, if this many messages may be sent.
+abbrev pub turn_calls : (most room : ℕ) → SenderState → List ℕ → Option (OutAction (List ℕ)) → List (OutAction (List ℕ))
+turn_calls most room p again named =
+    calls_from again (or_pick named) (length again + core_count (most - length again) (room - length again) p named)
 
--- The core's own turn, in which this many messages may be sent, those that are sent again first: if no more may, its
--- contact counts as closed.
-abbrev pub sender_acts : SenderWorker → ℕ → ℕ → SenderState → Given → Done SenderState
-sender_acts w most room p given =
-    let at = given.heard.since in
+-- the result of the first half of a turn: the state, and the calls to submit together, in order
+pub record Requests : Type 0 where
+  pub state : SenderState
+  pub calls : List (OutAction (List ℕ))
+
+-- The core's own turn at a moment, in which this many messages may be sent, those that are sent again first: if no more
+-- may, its contact counts as closed.
+abbrev pub core_requests : (most room at : ℕ) → SenderState → Requests
+core_requests most room at p =
     let again = again_numbers p.pace room at (repeats p.pace (repeat_count most room) at) in
     let left = sending_step p.core (event.Turn (nat_lt (length again) room)) in
-    sender_on_action w most room given.heard.now given.made (record p { core = left.0; moved = false }) again left.1
+    let acting : SenderState = record p { core = left.0; drained = false; failed = false } in
+    record { state = acting; calls = turn_calls most room acting again left.1 }
 
--- One turn, after its start, of at most this many calls. It receives up to 64 packets, and uses the time of the
--- tick after them.
+-- The first half of a turn, after its receives: it ends with the calls to submit. It uses the time of the tick after the
+-- receives.
+abbrev pub sender_requests : SenderWorker → (most : ℕ) → SenderState → (packets : List (List ℕ)) → (heard : Go) → Requests
+sender_requests w most p packets heard =
+    let ready = on_moment (fold sender_on_packet p packets) (is_open w.plan w.hop heard.now) heard.since in
+    core_requests most (send_room ready heard.since) heard.since ready
+
+-- One turn, after its start, of at most this many calls. It receives up to 64 packets; its second half begins with the
+-- outcome of its calls.
 abbrev pub sender_done : SenderWorker → ℕ → SenderState → Given → Done SenderState
 sender_done w most p given =
     let packets = take 64 given.packets in
-    let heard = fold sender_on_packet p packets in
-    let ready = on_moment heard (is_open w.plan w.hop given.heard.now) given.heard.since in
-    with_hearings (worker.Sender w.hop) (waits_first p.moved p.core) packets given.heard
-    (sender_acts w most (send_room ready given.heard.since) ready given)
+    let first = sender_requests w most p packets given.heard in
+    with_hearings (worker.Sender w.hop) (sender_sleep w p given.start) packets given.heard
+    (sender_on_calls w given.heard.now given.made first.state first.calls)
 
 -- one turn
 abbrev pub sender_turn : SenderWorker → ℕ → SenderState → Given → Done SenderState

@@ -1,12 +1,13 @@
 -- A worker over its turns: its inputs, and its actions.
-use Rattle.std.specs.Prelude.{ℕ, nat_lt, List, [], ◌∷◌, ◌++◌, length, map, Bool, true}
+use Rattle.std.specs.Prelude.{ℕ, ◌==◌, nat_lt, List, [], ◌∷◌, ◌++◌, length, map, Bool, true}
 use Rattle.std.specs.Prelude.{false, if◌then◌else◌, Option, Some, None}
 use Rattle.rly_core.specs.declared.ids.HopId.{HopId}
 use Rattle.rly_core.specs.declared.refusal.Refusal.{Refusal}
 use Rattle.rly_hop.specs.declared.message.Message.{Message}
 use Rattle.rly_hop.specs.Spelling.{spelling, write_refusal}
+use Rattle.rly_link.specs.declared.link.Sleep.{Sleep}
+use Rattle.rly_link.specs.declared.link.Sleep.TheVariants.{No}
 use Rattle.rly_link.specs.declared.turn.Go.{Go}
-use Rattle.rly_link.specs.declared.turn.Point.{Point}
 use Rattle.rly_link.specs.declared.turn.Point.TheVariants as point
 use Rattle.rly_link.specs.declared.turn.Worker.{Worker}
 use Rattle.rly_threads_workers.specs.DeskExchanges.{Asked, BatchOutcome}
@@ -75,16 +76,20 @@ has_some (first ∷ others) = true
 abbrev pub receives_of : List (List ℕ) → List (Option (List ℕ))
 receives_of packets = map (λ packet. Some packet) packets ++ (if nat_lt (length packets) 64 then None ∷ [] else [])
 
--- the first receive waits or doesn't, as this says, and the others don't
-abbrev pub hearings_from : Bool → List (Option (List ℕ)) → List Hearing
-hearings_from waits [] = []
-hearings_from waits (first ∷ others) = new_hearing waits first ∷ map (λ found. new_hearing false found) others
+-- how long the receive at this place in a turn waits at most: only the first one waits
+abbrev pub sleep_at : ℕ → Sleep → Sleep
+sleep_at place sleep = if place == 0 then sleep else No
+
+-- the first receive waits at most this long, and the others don't wait
+abbrev pub hearings_from : Sleep → List (Option (List ℕ)) → List Hearing
+hearings_from sleep [] = []
+hearings_from sleep (first ∷ others) = new_hearing sleep first ∷ map (λ found. new_hearing No found) others
 
 -- a worker receives these packets, gets the turn's tick, and does this
-abbrev pub with_hearings : {C : Type 0} → Worker → Bool → List (List ℕ) → Go → Done C → Done C
-with_hearings worker waits packets heard d = record {
+abbrev pub with_hearings : {C : Type 0} → Worker → Sleep → List (List ℕ) → Go → Done C → Done C
+with_hearings worker sleep packets heard d = record {
   core = d.core;
-  heard = hearings_from waits (receives_of packets) ++ d.heard;
+  heard = hearings_from sleep (receives_of packets) ++ d.heard;
   asked = d.asked;
   sent = d.sent;
   handed = (worker, point.Heard, heard) ∷ d.handed;

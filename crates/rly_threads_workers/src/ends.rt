@@ -7,7 +7,7 @@ ghost use Rattle.rly_link.specs.declared.turn.Point.{Point as APoint};
 ghost use Rattle.rly_threads_workers.specs.DeskExchanges.{batch_outcome, call_asked};
 ghost use Rattle.rly_link.specs.LinkHistory.{TellsMore, new_hearing, message_in, packet_in};
 ghost use Rattle.rly_threads_workers.specs.SenderState.{let_out, rate_after};
-ghost use Rattle.rly_threads_workers.specs.Turns.{has_some, packets_of, woken_if};
+ghost use Rattle.rly_threads_workers.specs.Turns.{packets_of, sleep_at, woken_if};
 
 use crate::desk::Desk;
 use crate::sender_state::let_one_out;
@@ -15,7 +15,7 @@ use rly_core::HopId;
 use rly_hop::{Message, read_message, write_message};
 use rly_hop_pacing::Rate;
 use rly_line::{BatchError, CallError};
-use rly_link::{Go, Link, MAX_PACKET, Point, Turn, Waker, Worker};
+use rly_link::{Go, Link, MAX_PACKET, Point, Sleep, Turn, Waker, Worker};
 use rly_machine::{Answer, Ask};
 use std::marker::Model;
 use std::sync::Wait;
@@ -60,89 +60,77 @@ impl<L: Link, K: Desk, T: Turn, W: Waker> Ends<L, K, T, W> {
         self.turn.between(rt, worker, point)
     }
 
-    /// Receives at most one packet, with or without a wait. Returns the number of bytes at the front of the buffer,
-    /// if one came, and the turn's time, which is read after that.
+    /// Receives at most one packet, and waits for it at most this long. Returns the number of bytes at the front of the
+    /// buffer, if one came, and the turn's time, which is read after that.
     pub(crate) fn hear<R: Wait>(
         &mut self,
         rt: &R,
         worker: Worker,
-        waits: bool,
+        sleep: Sleep,
         buffer: &mut [u8],
     ) -> (Option<usize>, Go)
         ensures bound { IfSome result.0 (λ count. count ≤ length buffer.new) }
         ensures heard { TellsMore self.old.heard self.new.heard
-            (new_hearing waits (packet_in result.0 buffer.new) ∷ []) }
+            (new_hearing sleep (packet_in result.0 buffer.new) ∷ []) }
         ensures told { TellsMore self.old.handed self.new.handed ((worker, APoint.Heard, result.1) ∷ []) }
         ensures same { self.new ≡ record self.old { heard = self.new.heard; handed = self.new.handed } }
     {
-        let found = self.receive(waits, buffer);
+        let found = self.receive(sleep, buffer);
         let go = self.between(rt, worker, Point::Heard);
         (found, go)
     }
 
-    /// Receives at most one packet. A failed receive returns none.
-    pub(crate) fn receive(&mut self, waits: bool, buffer: &mut [u8]) -> Option<usize>
+    /// Receives at most one packet, and waits for it at most this long. A failed receive returns none.
+    pub(crate) fn receive(&mut self, sleep: Sleep, buffer: &mut [u8]) -> Option<usize>
         ensures bound { IfSome result (λ count. count ≤ length buffer.new) }
-        ensures heard { TellsMore self.old.heard self.new.heard (new_hearing waits (packet_in result buffer.new) ∷ []) }
+        ensures heard { TellsMore self.old.heard self.new.heard (new_hearing sleep (packet_in result buffer.new) ∷ []) }
         ensures same { self.new ≡ record self.old { heard = self.new.heard } }
     {
-        let outcome = match waits {
-            true => self.link.recv(buffer),
-            false => self.link.try_recv(buffer),
-        };
-        match outcome {
+        match self.link.recv(sleep, buffer) {
             Ok(found) => found,
             Err(_) => None,
         }
     }
 
-    /// Encodes and sends a message, and returns whether it could be encoded. A failure of the link is ignored: a
-    /// packet may be lost on its way as well.
-    pub(crate) fn send(&mut self, message: Message<&[u8]>, buffer: &mut Buffer) -> bool
+    /// Encodes and sends a message, if it can be encoded. A failure of the link is ignored: a packet may be lost on its
+    /// way as well.
+    pub(crate) fn send(&mut self, message: Message<&[u8]>, buffer: &mut Buffer)
         ensures told { TellsMore self.old.sent self.new.sent (packets_of (message_bytes message.entry)) }
         ensures same { self.new ≡ record self.old { sent = self.new.sent } }
-        ensures whether { result ≡ has_some (packets_of (message_bytes message.entry)) }
     {
-        let Ok(length) = write_message(message, buffer) else {
-            return false;
-        };
-        let _sent = self.link.send(&buffer[..length]);
-        true
+        if let Ok(length) = write_message(message, buffer) {
+            let _sent = self.link.send(&buffer[..length]);
+        }
     }
 
-    /// Encodes and sends a message, if the rate permits it at this moment, and returns whether it was sent.
+    /// Encodes and sends a message, if the rate permits it at this moment.
     pub(crate) fn send_at(
         &mut self,
         message: Message<&[u8]>,
         buffer: &mut Buffer,
         rate: &mut Option<Rate>,
         at: u64,
-    ) -> bool
+    )
         ensures rate { rate.new ≡ rate_after rate.old (packets_of (message_bytes message.entry)) at }
         ensures told { TellsMore self.old.sent self.new.sent
             (let_out rate.old (packets_of (message_bytes message.entry)) at) }
         ensures same { self.new ≡ record self.old { sent = self.new.sent } }
-        ensures whether { result ≡ has_some (let_out rate.old (packets_of (message_bytes message.entry)) at) }
     {
-        let Ok(length) = write_message(message, buffer) else {
-            return false;
-        };
-        self.send_packet(&buffer[..length], rate, at)
+        if let Ok(length) = write_message(message, buffer) {
+            self.send_packet(&buffer[..length], rate, at);
+        }
     }
 
-    /// Sends a packet, if the rate permits it at this moment, and returns whether it was sent.
-    fn send_packet(&mut self, packet: &[u8], rate: &mut Option<Rate>, at: u64) -> bool
+    /// Sends a packet, if the rate permits it at this moment.
+    fn send_packet(&mut self, packet: &[u8], rate: &mut Option<Rate>, at: u64)
         requires { length packet.now ≤ MAX_PACKET }
         ensures rate { rate.new ≡ rate_after rate.old (packet.now ∷ []) at }
         ensures told { TellsMore self.old.sent self.new.sent (let_out rate.old (packet.now ∷ []) at) }
         ensures same { self.new ≡ record self.old { sent = self.new.sent } }
-        ensures whether { result ≡ has_some (let_out rate.old (packet.now ∷ []) at) }
     {
-        if !let_one_out(rate, packet, at) {
-            return false;
+        if let_one_out(rate, packet, at) {
+            let _sent = self.link.send(packet);
         }
-        let _sent = self.link.send(packet);
-        true
     }
 
     /// Submits a worker's call. Returns its outcome, and the tick after it.
@@ -214,6 +202,13 @@ impl<L: Link, K: Desk, T: Turn, W: Waker> Ends<L, K, T, W> {
             self.waker.wake(hop);
         }
     }
+}
+
+/// How long the receive at this place in a turn waits: only the first one waits.
+pub(crate) fn sleep_at(place: usize, sleep: Sleep) -> Sleep
+    ensures { result ≡ sleep_at place sleep }
+{
+    if place == 0 { sleep } else { Sleep::No }
 }
 
 /// The message at the front of a buffer, if there is one.

@@ -7,6 +7,7 @@
 //! `specs/SenderTurns.antt`. Callers: `rly_threads`, `rly_daemon_reporter`.
 #![tactic(auto)]
 
+mod calls;
 mod desk;
 mod ends;
 mod mem_desk;
@@ -18,4 +19,6 @@ pub use crate::desk::Desk;
 pub use crate::ends::Ends;
 pub use crate::mem_desk::MemDesk;
 pub use crate::receiver::receiver_run;
-pub use crate::sender::{law_strays_draw_nothing, law_turns_keep_the_rate, sender_run};
+pub use crate::sender::{
+    law_sleep_misses_nothing, law_strays_draw_nothing, law_turns_keep_the_rate, sender_run,
+};

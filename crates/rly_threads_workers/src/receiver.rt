@@ -1,4 +1,4 @@
-ghost use Rattle.std.specs.Prelude.{◌≡◌, ◌<◌, ◌⊎◌, [], Bool, IfErr, List, OnOk, length, vec_capacity};
+ghost use Rattle.std.specs.Prelude.{◌≡◌, ◌<◌, ◌⊎◌, ◌↔◌, [], Bool, IfErr, IsTrue, List, OnOk, length, vec_capacity};
 ghost use Rattle.std.specs.List.{zip};
 ghost use Rattle.std.specs.Option.{option_map};
 ghost use Rattle.rly_hop.specs.Payloads.{in_action_bytes, in_event_bytes, message_bytes};
@@ -15,11 +15,11 @@ ghost use Rattle.rly_threads_workers.specs.WorkerRuns.{HasReceived};
 ghost use Rattle.rly_threads_workers.specs.Turns.{woken_if};
 
 use crate::desk::Desk;
-use crate::ends::{Buffer, Ends, message_in};
+use crate::ends::{Buffer, Ends, message_in, sleep_at};
 use byteorder::{BigEndian, ByteOrder};
 use rly_core::{HopId, PeerId, limits};
 use rly_hop::{InAction, InEvent, Message, Receiving, StationId, TakeAnswer};
-use rly_link::{Link, MAX_PACKET, Point, Turn, Waker, Worker};
+use rly_link::{Link, MAX_PACKET, Point, Sleep, Turn, Waker, Worker};
 use rly_machine::{Answer, Ask, Command, Payload, Reply};
 use rly_plan::Plan;
 use std::alloc::{AllocError, Global};
@@ -131,7 +131,8 @@ struct ReceiverWorker<'a> {
 }
 
 impl<'a> ReceiverWorker<'a> {
-    /// One turn, after its start: receives packets, and submits the Takes that the cores request for them together.
+    /// One turn, after its start: it submits the Takes of its first half together, if there are any, and passes their
+    /// answers to its second half.
     fn turn<R: Wait, L: Link, K: Desk, T: Turn, W: Waker>(
         &self,
         rt: &R,
@@ -147,8 +148,7 @@ impl<'a> ReceiverWorker<'a> {
             (receiver_done (receiver_worker self.now.plan.now self.now.peer) takes.old.most
             (receiver self.now.own self.now.station) given) }
     {
-        self.gather(rt, alloc, buffer, takes, ends);
-        if takes.asks.is_empty() {
+        if !self.request(rt, alloc, buffer, takes, ends) {
             return;
         }
         let worker = Worker::Receiver(self.peer);
@@ -156,6 +156,27 @@ impl<'a> ReceiverWorker<'a> {
         // Those that weren't submitted remain.
         takes.asks.clear();
         self.answer(buffer, takes, ends);
+    }
+
+    /// The first half of a turn: receives packets, and lists the Takes that their cores request. Returns whether there are
+    /// any.
+    fn request<R: Wait, L: Link, K: Desk, T: Turn, W: Waker>(
+        &self,
+        rt: &R,
+        alloc: Global,
+        buffer: &mut Buffer,
+        takes: &mut Takes,
+        ends: &mut Ends<L, K, T, W>,
+    ) -> bool
+        requires ready { HasNoTake takes.old }
+        ensures some { IsTrue result ↔ (0 < length takes.new.asks.items) }
+        ensures waiting { AreWaiting takes.new }
+        ensures requested { (packets : List Arrival) × (quiet : AGo)
+            × HasGathered (receiver_worker self.now.plan.now self.now.peer)
+            (receiver self.now.own self.now.station) ends.old ends.new takes.old takes.new packets quiet }
+    {
+        self.gather(rt, alloc, buffer, takes, ends);
+        !takes.asks.is_empty()
     }
 
     /// Receives up to the turn's maximum of packets. The first receive waits, the others don't.
@@ -175,7 +196,8 @@ impl<'a> ReceiverWorker<'a> {
     {
         for place in 0..takes.most {
             let worker = Worker::Receiver(self.peer);
-            let (found, go) = ends.hear(rt, worker, place == 0, buffer);
+            let sleep = sleep_at(place, Sleep::Woken);
+            let (found, go) = ends.hear(rt, worker, sleep, buffer);
             let Some(count) = found else {
                 return;
             };
@@ -213,8 +235,8 @@ impl<'a> ReceiverWorker<'a> {
         takes.waiting.push_reserved((core, hop));
     }
 
-    /// Passes each answer to the core that waits for it, in order. Sends each refusal that a core requests, and
-    /// after them the greatest of the custodies.
+    /// The second half of a turn: passes each answer to the core that waits for it, in order, if the Takes were answered.
+    /// Sends each refusal that a core requests, and after them the greatest of the custodies.
     fn answer<L: Link, K: Desk, T: Turn, W: Waker>(
         &self,
         buffer: &mut Buffer,

@@ -1,5 +1,5 @@
-ghost use Rattle.std.specs.Prelude.{◌≡◌, ◌<◌, ◌≤◌, ◌⊎◌, ◌+◌, ◌-◌, ◌*◌, ◌++◌, ◌∷◌, [], List, Ok, Some, false, fold};
-ghost use Rattle.std.specs.Prelude.{length, vec_capacity, ℕ};
+ghost use Rattle.std.specs.Prelude.{◌≡◌, ◌<◌, ◌≤◌, ◌⊎◌, ◌↔◌, ◌+◌, ◌-◌, ◌*◌, ◌++◌, ◌∷◌, [], IfErr, IsTrue, List, None, Ok, Some};
+ghost use Rattle.std.specs.Prelude.{false, fold, length, true, ℕ};
 ghost use Rattle.std.specs.List.{filter_map};
 ghost use Rattle.std.specs.Option.{option_map};
 ghost use Rattle.rly_hop.specs.Payloads.{message_bytes, out_action_bytes, out_event_bytes};
@@ -8,30 +8,35 @@ ghost use Rattle.rly_core.specs.declared.params.Params.{Params as AParams};
 ghost use Rattle.rly_hop.specs.Sender.{Sender};
 ghost use Rattle.rly_hop.specs.Spelling.{longest_message};
 ghost use Rattle.rly_hop_pacing.specs.Rates.{burst, first_bucket};
-ghost use Rattle.rly_plan.specs.ContactPlan.{ContactPlan, rate, resend};
+ghost use Rattle.rly_link.specs.declared.turn.Go.{Go as AGo};
+ghost use Rattle.rly_plan.specs.ContactPlan.{ContactPlan, is_open, rate, resend};
+ghost use Rattle.rly_plan.specs.Sound.{IsSoundPlan};
 ghost use Rattle.rly_threads_workers.specs.declared.sender_state.SenderState.{SenderState as Keeping};
+ghost use Rattle.rly_threads_workers.specs.Asleep.{AsksOnlyPicks, Lasts};
 ghost use Rattle.rly_threads_workers.specs.SenderTurns.{SenderWorker as Handing};
-ghost use Rattle.rly_threads_workers.specs.SenderState.{first_sender_state, sender_on_hearing};
+ghost use Rattle.rly_threads_workers.specs.SenderState.{first_sender_state, send_room, sender_on_hearing};
 ghost use Rattle.rly_threads_workers.specs.Strays.{is_on_flight};
 ghost use Rattle.rly_threads_workers.specs.RateKept.{earliest, latest, left_by, sent_in, total_cost};
-ghost use Rattle.rly_threads_workers.specs.SenderTurns.{call_at, call_count, calls_from, core_call_at, core_count};
-ghost use Rattle.rly_threads_workers.specs.SenderTurns.{error_event, event_in, named_ask, or_pick, repeat_count};
-ghost use Rattle.rly_threads_workers.specs.SenderTurns.{sender_done, sender_events, sender_on_action, sender_on_calls};
-ghost use Rattle.rly_threads_workers.specs.SenderTurns.{sender_on_packet, sender_turn, sender_worker, waits_first};
+ghost use Rattle.rly_threads_workers.specs.SenderTurns.{call_count, calls_from, core_count, core_requests};
+ghost use Rattle.rly_threads_workers.specs.SenderTurns.{edge_moment, error_event, event_in, has_changed, is_at_rest};
+ghost use Rattle.rly_threads_workers.specs.SenderTurns.{named_ask, or_pick};
+ghost use Rattle.rly_threads_workers.specs.SenderTurns.{repeat_count, sender_done, sender_on_packet, sender_sleep};
+ghost use Rattle.rly_threads_workers.specs.SenderTurns.{sender_turn, sender_worker, sleep_until, turn_calls};
 ghost use Rattle.rly_threads_workers.specs.WorkerRuns.{HasSent};
-ghost use Rattle.rly_threads_workers.specs.HelpersTurns.{Did, HasHeard, HasNumbers, HasHandedEvent, IsCall, IsIdle};
-ghost use Rattle.rly_threads_workers.specs.HelpersTurns.{call_event};
-ghost use Rattle.rly_threads_workers.specs.Turns.{Given, Made};
+ghost use Rattle.rly_threads_workers.specs.HelpersTurns.{AreListed, Did, HasCallRoom, HasHandedEvent, HasHeard, HasNumbers};
+ghost use Rattle.rly_threads_workers.specs.HelpersTurns.{HasRequested, IsIdle, IsSameTurn, answers_in, asks_in};
+ghost use Rattle.rly_threads_workers.specs.HelpersTurns.{outcome_events};
+ghost use Rattle.rly_threads_workers.specs.Turns.{Given};
 
+use crate::calls::{Calls, or_pick, repeat_count};
 use crate::desk::Desk;
-use crate::ends::{Buffer, Ends, message_in};
-use crate::sender_state::{MAX_CALLS, SenderState};
+use crate::ends::{Buffer, Ends, message_in, sleep_at};
+use crate::sender_state::{SenderState, sooner};
 use rly_core::{HopId, Params, Refusal, limits};
 use rly_hop::{Message, OutAction, OutEvent, Sending, StationId};
-use rly_hop_pacing::Numbers;
-use rly_line::{BatchError, CallError};
-use rly_link::{Link, MAX_PACKET, Point, Turn, Waker, Worker};
-use rly_machine::{Answer, Ask, Command, Query, Reply};
+use rly_line::BatchError;
+use rly_link::{Go, Link, MAX_PACKET, Point, Sleep, Turn, Waker, Worker};
+use rly_machine::{Ask, Command, Query, Reply};
 use rly_plan::Plan;
 use std::alloc::Global;
 use std::marker::Model;
@@ -39,6 +44,9 @@ use std::sync::Wait;
 
 /// Maximum number of packets that it receives per turn.
 const MAX_PACKETS: usize = limits::MAX_ROUND as usize;
+
+/// The wait after a call that was refused, in microseconds.
+const RETRY: u64 = 10_000;
 
 /// Sends the datagrams of a hop of the plan, turn by turn, until it is stopped. Uses the spool's window, which is
 /// the maximum number of datagrams in flight, and its longest payload, for the hop's rate. Returns at once if the
@@ -73,7 +81,7 @@ pub fn sender_run<R: Wait, L: Link, K: Desk, T: Turn, W: Waker>(
         if !go.on {
             return;
         }
-        outlet.turn(rt, &mut buffer, &mut calls, ends);
+        outlet.turn(rt, go, &mut buffer, &mut calls, ends);
     }
 }
 
@@ -106,37 +114,26 @@ pub fn law_strays_draw_nothing()
         ≡ (sender_turn w most p (record given { packets = before ++ later })).asked) }
 {}
 
-/// The calls that are submitted together, and their answers. Between turns there are none.
-#[derive(Drop)]
-struct Calls {
-    /// Maximum number of calls together: 64, or 1 if memory for the lists was refused.
-    most: u64,
-    asks: Vec<Ask>,
-    answers: Vec<Answer>,
-}
-
-impl Calls {
-    /// Room for 64 calls if memory permits, or else for none.
-    fn reserve(alloc: Global) -> Calls
-        ensures most { (result.most ≡ 64) ⊎ (result.most ≡ 1) }
-        ensures idle { IsIdle result }
-    {
-        let asks = Vec::with_capacity(alloc, MAX_CALLS as usize);
-        let answers = Vec::with_capacity(alloc, MAX_CALLS as usize);
-        match (asks, answers) {
-            (Ok(asks), Ok(answers)) => Calls {
-                most: MAX_CALLS,
-                asks,
-                answers,
-            },
-            _ => Calls {
-                most: 1,
-                asks: Vec::new(alloc),
-                answers: Vec::new(alloc),
-            },
-        }
-    }
-}
+/// The sleep misses nothing. A turn to which no packet comes, at a moment before the end of its sleep, sends nothing and
+/// asks nothing but Picks, and these only after a Pick that found nothing. So does one that only a wake-up ends. This
+/// holds unless a call of the turn before was refused, or the contact has changed since; while the worker rests, a change
+/// of its contact makes no difference. With a sound plan, the contact stays as it was at the turn before until the sleep
+/// ends, if the wall clock rises no faster than the monotonic one.
+pub fn law_sleep_misses_nothing()
+    ensures nothing { (w : Handing) (most : ℕ) (p : Keeping) (given : Given) →
+        p.failed ≡ false → p.report ≡ None → given.packets ≡ [] →
+        given.start.since ≤ given.heard.since → Lasts (sender_sleep w p given.start) given.heard.since →
+        (is_open w.plan w.hop given.heard.now ≡ p.pace.is_open) ⊎ (is_at_rest p ≡ true) →
+        ((sender_turn w most p given).sent ≡ [])
+        × AsksOnlyPicks w given.heard.now (sender_turn w most p given).asked
+        × (p.drained ≡ false → (sender_turn w most p given).asked ≡ []) }
+    ensures contact { (w : Handing) (p : Keeping) (start heard : AGo) →
+        IsSoundPlan w.plan → p.failed ≡ false → is_at_rest p ≡ false → Lasts (sender_sleep w p start) heard.since →
+        start.now ≤ heard.now → heard.now - start.now ≤ heard.since - start.since →
+        is_open w.plan w.hop heard.now ≡ p.pace.is_open }
+    // No turn leaves a Heard to the next one.
+    ensures report { (w : Handing) (most : ℕ) (p : Keeping) (given : Given) → (sender_turn w most p given).core.report ≡ None }
+{}
 
 /// A sending worker between its turns.
 #[derive(Drop)]
@@ -147,10 +144,12 @@ struct SenderWorker<'a> {
 }
 
 impl<'a> SenderWorker<'a> {
-    /// One turn, after its start.
+    /// One turn, after the tick at its start: it submits the calls of its first half, if there are any, and passes their
+    /// outcome to its second half.
     fn turn<R: Wait, L: Link, K: Desk, T: Turn, W: Waker>(
         &mut self,
         rt: &R,
+        start: Go,
         buffer: &mut Buffer,
         calls: &mut Calls,
         ends: &mut Ends<L, K, T, W>,
@@ -160,42 +159,125 @@ impl<'a> SenderWorker<'a> {
         ensures most { calls.new.most ≡ calls.old.most }
         ensures plan { self.new.plan ≡ self.old.plan }
         ensures hop { self.new.hop ≡ self.old.hop }
-        ensures done { (given : Given) × Did ends.old ends.new self.new.pacing
+        ensures done { (given : Given) × (given.start ≡ start)
+            × Did ends.old ends.new self.new.pacing
             (sender_done (sender_worker self.old.plan.now self.old.hop) calls.old.most self.old.pacing given) }
     {
-        self.gather(buffer, ends);
+        if !self.request(rt, start, buffer, calls, ends) {
+            return;
+        }
+        let (outcome, go) = calls.submit(rt, Worker::Sender(self.hop), ends);
+        self.answer(buffer, calls, outcome, go, ends);
+    }
+
+    /// The first half of a turn: receives packets, and lists the calls that its core requests then. Returns whether there
+    /// are any.
+    fn request<R: Wait, L: Link, K: Desk, T: Turn, W: Waker>(
+        &mut self,
+        rt: &R,
+        start: Go,
+        buffer: &mut Buffer,
+        calls: &mut Calls,
+        ends: &mut Ends<L, K, T, W>,
+    ) -> bool
+        requires idle { IsIdle calls.old }
+        ensures some { IsTrue result ↔ (0 < length (asks_in calls.new)) }
+        ensures same { self.new ≡ record self.old { pacing = self.new.pacing } }
+        ensures most { calls.new.most ≡ calls.old.most }
+        ensures requested { (packets : List (List ℕ)) × (heard : AGo)
+            × HasRequested (sender_worker self.old.plan.now self.old.hop) calls.old.most ends.old ends.new
+            self.old.pacing self.new.pacing calls.new start packets heard }
+    {
+        self.gather(self.sleep(start), buffer, ends);
         let go = ends.between(rt, Worker::Sender(self.hop), Point::Heard);
         self.pacing
             .moment(self.plan.is_open(self.hop, go.now), go.since);
-        let room = self.pacing.room(go.since);
-        let mut again = Numbers::new();
-        let count = repeat_count(calls.most, room);
-        self.pacing.pace.missing(count, go.since, &mut again);
-        self.pacing.add_spare(room, go.since, &mut again);
-        let is_open = (again.len() as u64) < room;
-        let action = self.pacing.core.step(OutEvent::Turn { is_open });
-        self.act(rt, buffer, go.now, room, &again, action, calls, ends);
+        self.list_calls(go, calls);
+        !calls.is_empty()
     }
 
-    /// Receives up to 64 packets and passes the messages in them on.
+    /// The second half of a turn, given the outcome of its calls and the tick after them: passes each answer to the core,
+    /// in order, and sends the messages that it then requests, if a contact is open by then.
+    fn answer<L: Link, K: Desk, T: Turn, W: Waker>(
+        &mut self,
+        buffer: &mut Buffer,
+        calls: &mut Calls,
+        outcome: Result<(), BatchError>,
+        go: Go,
+        ends: &mut Ends<L, K, T, W>,
+    )
+        requires room { HasCallRoom calls.old }
+        requires asks { asks_in calls.old ≡ [] }
+        requires none_given { IfErr outcome (λ _. answers_in calls.old ≡ []) }
+        requires numbers { HasNumbers (out_action_bytes calls.old.named)
+            (length (answers_in calls.old) - length calls.old.again.items) }
+        ensures idle { IsIdle calls.new }
+        ensures most { calls.new.most ≡ calls.old.most }
+        ensures same { self.new ≡ record self.old { pacing = self.new.pacing } }
+        ensures told { HasHandedEvent (is_open self.old.plan.now self.old.hop go.now) go.since ends.old ends.new
+            self.old.pacing self.new.pacing (outcome_events calls.old outcome) }
+    {
+        let is_open = self.plan.is_open(self.hop, go.now);
+        match outcome {
+            Ok(()) => self.tell_all(buffer, is_open, go.since, calls, ends),
+            Err(error) => self
+                .pacing
+                .tell(buffer, is_open, go.since, error_event(error), ends),
+        }
+    }
+
+    /// How long a turn waits for its first packet, by the last tick.
+    fn sleep(&self, last: Go) -> Sleep
+        ensures { result ≡ sender_sleep (sender_worker self.now.plan.now self.now.hop) self.now.pacing last }
+    {
+        if self.pacing.failed {
+            return Sleep::Until(last.since.saturating_add(RETRY));
+        }
+        if self.pacing.core.turn_action(false).is_some() || self.has_changed(last) {
+            return Sleep::No;
+        }
+        let edge = self.edge_moment(last);
+        sleep_until(
+            last.since,
+            sooner(self.pacing.work_moment(last.since), edge),
+        )
+    }
+
+    /// Whether its contact began or ended since its last turn.
+    fn has_changed(&self, last: Go) -> bool
+        ensures { result ≡ has_changed (sender_worker self.now.plan.now self.now.hop) self.now.pacing last }
+    {
+        self.plan.is_open(self.hop, last.now) != self.pacing.pace.is_open()
+    }
+
+    /// The moment of the monotonic clock at which it looks at its contact again: never while it rests.
+    fn edge_moment(&self, last: Go) -> Option<u64>
+        ensures { result ≡ edge_moment (sender_worker self.now.plan.now self.now.hop) self.now.pacing last }
+    {
+        if self.pacing.is_at_rest() {
+            return None;
+        }
+        let wait = self.plan.edge_wait(self.hop, last.now)?;
+        Some(last.since.saturating_add(wait))
+    }
+
+    /// Receives up to 64 packets and passes the messages in them on. It waits for the first one.
     fn gather<L: Link, K: Desk, T: Turn, W: Waker>(
         &mut self,
+        sleep: Sleep,
         buffer: &mut Buffer,
         ends: &mut Ends<L, K, T, W>,
     )
         ensures same { self.new ≡ record self.old { pacing = self.new.pacing } }
         ensures heard { (packets : List (List ℕ))
-            × HasHeard (waits_first self.old.pacing.moved self.old.pacing.core) ends.old ends.new self.old.pacing
-            self.new.pacing packets }
+            × HasHeard sleep ends.old ends.new self.old.pacing self.new.pacing packets }
     {
-        let mut waits = self.pacing.waits_first();
-        for _place in 0..MAX_PACKETS {
-            let found = ends.receive(waits, buffer);
+        for place in 0..MAX_PACKETS {
+            let found = ends.receive(sleep_at(place, sleep), buffer);
             let Some(count) = found else {
                 return;
             };
             self.hear(message_in(buffer, Some(count)));
-            waits = false;
         }
     }
 
@@ -210,39 +292,49 @@ impl<'a> SenderWorker<'a> {
         }
     }
 
-    /// Submits the calls for the numbers to send again and those that follow from the core's request, passes it the
-    /// answers, and sends the messages that it then requests and the repeats.
-    fn act<R: Wait, L: Link, K: Desk, T: Turn, W: Waker>(
-        &mut self,
-        rt: &R,
-        buffer: &mut Buffer,
+    /// Lists the calls of a turn at its time: the Fetches of the numbers to send again, and those that follow from the
+    /// core's request.
+    fn list_calls(&mut self, go: Go, calls: &mut Calls)
+        requires idle { IsIdle calls.old }
+        ensures same { self.new ≡ record self.old { pacing = self.new.pacing } }
+        ensures most { calls.new.most ≡ calls.old.most }
+        ensures state { self.new.pacing
+            ≡ (core_requests calls.old.most (send_room self.old.pacing go.since) go.since self.old.pacing).state }
+        ensures listed { AreListed (sender_worker self.old.plan.now self.old.hop) go.now calls.new
+            (core_requests calls.old.most (send_room self.old.pacing go.since) go.since self.old.pacing).calls }
+    {
+        let room = self.pacing.room(go.since);
+        let count = repeat_count(calls.most, room);
+        calls.again.clear();
+        self.pacing.pace.missing(count, go.since, &mut calls.again);
+        self.pacing.add_spare(room, go.since, &mut calls.again);
+        let is_open = (calls.again.len() as u64) < room;
+        let action = self.pacing.core.step(OutEvent::Turn { is_open });
+        self.pacing.drained = false;
+        self.pacing.failed = false;
+        self.list_action(go.now, room, action, calls);
+    }
+
+    /// Lists the Fetches of the numbers to send again, and the calls that follow from the core's request, if this many
+    /// messages may be sent.
+    fn list_action(
+        &self,
         now: u64,
         room: u64,
-        again: &Numbers,
-        action: Option<OutAction<&[u8]>>,
+        action: Option<OutAction<&'static [u8]>>,
         calls: &mut Calls,
-        ends: &mut Ends<L, K, T, W>,
     )
         requires idle { IsIdle calls.old }
-        requires again { length again.now.items ≤ repeat_count calls.old.most room }
-        ensures idle { IsIdle calls.new }
+        requires again { length calls.old.again.items ≤ repeat_count calls.old.most room }
         ensures most { calls.new.most ≡ calls.old.most }
-        ensures plan { self.new.plan ≡ self.old.plan }
-        ensures hop { self.new.hop ≡ self.old.hop }
-        ensures done { (made : Made) × Did ends.old ends.new self.new.pacing
-            (sender_on_action (sender_worker self.old.plan.now self.old.hop) calls.old.most room now made
-            (record self.old.pacing { moved = false }) again.now.items (option_map out_action_bytes action.entry)) }
+        ensures listed { AreListed (sender_worker self.now.plan.now self.now.hop) now calls.new
+            (turn_calls calls.old.most room self.now.pacing calls.old.again.items (option_map out_action_bytes action.entry)) }
     {
-        self.pacing.moved = false;
-        let first = again.len() as u64;
+        let first = calls.again.len() as u64;
         let most = calls.most.saturating_sub(first);
         let count = first + self.core_count(room.saturating_sub(first), action, most);
-        let named = or_pick(action);
-        if count > 1 {
-            self.ask_all(rt, buffer, now, again, named, count, calls, ends);
-        } else if count > 0 {
-            self.ask(rt, buffer, now, call_at(again, named, 0), ends);
-        }
+        calls.named = or_pick(action);
+        self.list(now, count, calls);
     }
 
     /// How many calls are submitted together for the core's request, if it has one and any may be.
@@ -273,95 +365,20 @@ impl<'a> SenderWorker<'a> {
         }
     }
 
-    /// Submits one call, passes the answer to the core, and sends the message that it requests, if a contact is
-    /// open by then.
-    fn ask<R: Wait, L: Link, K: Desk, T: Turn, W: Waker>(
-        &mut self,
-        rt: &R,
-        buffer: &mut Buffer,
-        now: u64,
-        action: OutAction<&[u8]>,
-        ends: &mut Ends<L, K, T, W>,
-    )
-        requires call { IsCall (out_action_bytes action) }
-        ensures plan { self.new.plan ≡ self.old.plan }
-        ensures hop { self.new.hop ≡ self.old.hop }
-        ensures done { (made : Made) × Did ends.old ends.new self.new.pacing
-            (sender_on_calls (sender_worker self.old.plan.now self.old.hop) now made self.old.pacing
-            (out_action_bytes action.entry ∷ [])) }
-    {
-        let Some(ask) = self.named_ask(now, action) else {
-            return;
-        };
-        let (outcome, go) = ends.call(rt, Worker::Sender(self.hop), ask);
-        let is_open = self.plan.is_open(self.hop, go.now);
-        let event = call_event(action, &outcome);
-        self.pacing.tell(buffer, is_open, go.since, event, ends);
-    }
-
-    /// Submits this many calls together, passes each answer to the core, in order, and sends the messages that it
-    /// requests, if a contact is open by then.
-    fn ask_all<R: Wait, L: Link, K: Desk, T: Turn, W: Waker>(
-        &mut self,
-        rt: &R,
-        buffer: &mut Buffer,
-        now: u64,
-        again: &Numbers,
-        action: OutAction<&[u8]>,
-        count: u64,
-        calls: &mut Calls,
-        ends: &mut Ends<L, K, T, W>,
-    )
-        requires idle { IsIdle calls.old }
-        requires call { IsCall (out_action_bytes action) }
-        requires numbers { HasNumbers (out_action_bytes action) (count - length again.now.items) }
-        requires several { 1 < count }
-        requires few { count ≤ calls.old.most }
-        ensures idle { IsIdle calls.new }
-        ensures most { calls.new.most ≡ calls.old.most }
-        ensures plan { self.new.plan ≡ self.old.plan }
-        ensures hop { self.new.hop ≡ self.old.hop }
-        ensures done { (made : Made) × Did ends.old ends.new self.new.pacing
-            (sender_on_calls (sender_worker self.old.plan.now self.old.hop) now made self.old.pacing
-            (calls_from again.now.items (out_action_bytes action.entry) count)) }
-    {
-        self.list(now, again, action, count, &mut calls.asks);
-        let worker = Worker::Sender(self.hop);
-        let (outcome, go) = ends.call_all(rt, worker, &mut calls.asks, &mut calls.answers);
-        // Those that weren't submitted remain.
-        calls.asks.clear();
-        let is_open = self.plan.is_open(self.hop, go.now);
-        match outcome {
-            Ok(()) => {
-                let answers = &mut calls.answers;
-                self.tell_all(buffer, is_open, go.since, again, action, answers, ends)
-            }
-            Err(error) => self
-                .pacing
-                .tell(buffer, is_open, go.since, error_event(error), ends),
-        }
-    }
-
     /// Lists the asks of this many calls, in order.
-    fn list(
-        &self,
-        now: u64,
-        again: &Numbers,
-        named: OutAction<&[u8]>,
-        count: u64,
-        asks: &mut Vec<Ask>,
-    )
-        requires numbers { HasNumbers (out_action_bytes named) (count - length again.now.items) }
-        requires empty { asks.old.items ≡ [] }
-        requires room { count ≤ vec_capacity asks.old }
-        ensures asks { asks.new.items
+    fn list(&self, now: u64, count: u64, calls: &mut Calls)
+        requires idle { IsIdle calls.old }
+        requires few { count ≤ calls.old.most }
+        requires numbers { HasNumbers (out_action_bytes calls.old.named) (count - length calls.old.again.items) }
+        ensures same { IsSameTurn calls.old calls.new }
+        ensures answers { answers_in calls.new ≡ [] }
+        ensures asks { asks_in calls.new
             ≡ filter_map (named_ask (sender_worker self.now.plan.now self.now.hop) now)
-            (calls_from again.now.items (out_action_bytes named.entry) count) }
-        ensures capacity { vec_capacity asks.new ≡ vec_capacity asks.old }
+            (calls_from calls.old.again.items (out_action_bytes calls.old.named) count) }
     {
         for place in 0..count {
-            if let Some(ask) = self.named_ask(now, call_at(again, named, place)) {
-                asks.push_reserved(ask);
+            if let Some(ask) = self.named_ask(now, calls.at(place)) {
+                calls.push(ask);
             }
         }
     }
@@ -372,24 +389,24 @@ impl<'a> SenderWorker<'a> {
         buffer: &mut Buffer,
         is_open: bool,
         at: u64,
-        again: &Numbers,
-        named: OutAction<&[u8]>,
-        answers: &mut Vec<Answer>,
+        calls: &mut Calls,
         ends: &mut Ends<L, K, T, W>,
     )
-        requires numbers { HasNumbers (out_action_bytes named) (length answers.old.items - length again.now.items) }
-        ensures none { answers.new.items ≡ [] }
-        ensures capacity { vec_capacity answers.new ≡ vec_capacity answers.old }
+        requires room { HasCallRoom calls.old }
+        requires asks { asks_in calls.old ≡ [] }
+        requires numbers { HasNumbers (out_action_bytes calls.old.named)
+            (length (answers_in calls.old) - length calls.old.again.items) }
+        ensures idle { IsIdle calls.new }
+        ensures most { calls.new.most ≡ calls.old.most }
         ensures same { self.new ≡ record self.old { pacing = self.new.pacing } }
         ensures told { HasHandedEvent is_open at ends.old ends.new self.old.pacing self.new.pacing
-            (sender_events (calls_from again.now.items (out_action_bytes named.entry) (length answers.old.items))
-            (Ok answers.old.items)) }
+            (outcome_events calls.old (Ok tt)) }
     {
-        // The last of the reversed list is the first answer.
-        answers.reverse();
-        for place in 0..answers.len() as u64 {
-            let answer = answers.take_last();
-            let event = event_in(call_at(again, named, place), &answer.reply);
+        for place in 0..calls.begin_answers() {
+            let Some(answer) = calls.next_answer() else {
+                return;
+            };
+            let event = event_in(calls.at(place), &answer.reply);
             self.pacing.tell(buffer, is_open, at, event, ends);
         }
     }
@@ -410,65 +427,6 @@ impl<'a> SenderWorker<'a> {
             })),
             OutAction::Send(_) => None,
         }
-    }
-}
-
-/// The call that the core requests; without one, none of its calls is submitted.
-fn or_pick<'a>(action: Option<OutAction<&'a [u8]>>) -> OutAction<&'a [u8]>
-    ensures { out_action_bytes result ≡ or_pick (option_map out_action_bytes action.entry) }
-{
-    match action {
-        None | Some(OutAction::Send(_)) => OutAction::Pick,
-        Some(action) => action,
-    }
-}
-
-/// How many numbers may be sent again in a turn of at most `most` calls and `room` messages: one call is left for the
-/// core.
-fn repeat_count(most: u64, room: u64) -> u64
-    ensures { result ≡ repeat_count most room }
-{
-    room.min(most.saturating_sub(1).max(1))
-}
-
-/// The call at an index among those submitted together: first the Fetches of the numbers to send again, and then those
-/// for the core's request.
-fn call_at<'a>(again: &Numbers, named: OutAction<&'a [u8]>, place: u64) -> OutAction<&'a [u8]>
-    requires { HasNumbers (out_action_bytes named) (place - length again.now.items) }
-    ensures { out_action_bytes result ≡ call_at again.now.items (out_action_bytes named.entry) place }
-{
-    let first = again.len() as u64;
-    if place < first {
-        OutAction::Fetch(again[place as usize])
-    } else {
-        core_call_at(named, place - first)
-    }
-}
-
-/// The call at an index among those for the core's request: the Fetch of a later number, a Pick after a Release, or the
-/// same call again.
-fn core_call_at<'a>(named: OutAction<&'a [u8]>, place: u64) -> OutAction<&'a [u8]>
-    requires { HasNumbers (out_action_bytes named) place }
-    ensures { out_action_bytes result ≡ core_call_at (out_action_bytes named.entry) place }
-{
-    match named {
-        OutAction::Fetch(number) => OutAction::Fetch(number + place),
-        OutAction::Release(_) if place > 0 => OutAction::Pick,
-        other => other,
-    }
-}
-
-/// The core's event for one call.
-fn call_event<'a>(
-    action: OutAction<&[u8]>,
-    outcome: &'a Result<Answer, CallError>,
-) -> OutEvent<&'a [u8]>
-    ensures { out_event_bytes result ≡ call_event (out_action_bytes action.entry) outcome.now }
-{
-    match outcome {
-        Ok(answer) => event_in(action, &answer.reply),
-        Err(CallError::Closed(_)) => OutEvent::Refused(Refusal::Closed),
-        Err(CallError::Lost) => OutEvent::Refused(Refusal::Lost),
     }
 }
 
@@ -502,5 +460,16 @@ fn event_in<'a>(action: OutAction<&[u8]>, reply: &'a Reply) -> OutEvent<&'a [u8]
         (Reply::Unchanged, _) => OutEvent::Unchanged,
         (Reply::Refused(refusal), _) => OutEvent::Refused(*refusal),
         _ => OutEvent::Other,
+    }
+}
+
+/// A wait until a moment, if there is one, at another one: none if it has come.
+fn sleep_until(at: u64, moment: Option<u64>) -> Sleep
+    ensures { result ≡ sleep_until at moment }
+{
+    match moment {
+        Some(moment) if moment <= at => Sleep::No,
+        Some(moment) => Sleep::Until(moment),
+        None => Sleep::Woken,
     }
 }

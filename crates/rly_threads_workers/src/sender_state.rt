@@ -1,20 +1,21 @@
 ghost use Rattle.std.specs.Prelude.{◌≡◌, ◌≤◌, [], is_some, length, option_map};
 ghost use Rattle.rly_hop.specs.Payloads.{message_bytes, out_action_bytes, out_event_bytes};
 ghost use Rattle.rly_hop.specs.Sending.{sending_step};
+ghost use Rattle.rly_hop_pacing.specs.Moments.{sooner};
 ghost use Rattle.rly_hop_pacing.specs.Rates.{first_bucket};
 ghost use Rattle.rly_link.specs.LinkHistory.{TellsMore};
-ghost use Rattle.rly_threads_workers.specs.SenderTurns.{is_progress, after_out_event, sender_packets, picks_after};
-ghost use Rattle.rly_threads_workers.specs.SenderTurns.{again_numbers, picks_beside, sent_on, waits_first};
+ghost use Rattle.rly_threads_workers.specs.SenderTurns.{after_out_event, again_numbers, held_back, is_at_rest, is_nothing};
+ghost use Rattle.rly_threads_workers.specs.SenderTurns.{is_refusal};
+ghost use Rattle.rly_threads_workers.specs.SenderTurns.{picks_after, picks_beside, sender_packets, sent_on, wants_room, work_moment};
 ghost use Rattle.rly_threads_workers.specs.SenderState.{first_sender_state, let_out, lets_out, on_moment};
 ghost use Rattle.rly_threads_workers.specs.SenderState.{action_on, control_on_answer, control_on_named};
 ghost use Rattle.rly_threads_workers.specs.SenderState.{control_on_release, control_on_report, or_else, repeat_on};
 ghost use Rattle.rly_threads_workers.specs.SenderState.{rate_after, rate_after_one, send_room, set_back_if};
 ghost use Rattle.rly_threads_workers.specs.SenderState.{report_after, sender_on_hearing, with_custody, with_report};
-ghost use Rattle.rly_threads_workers.specs.Turns.{has_some};
 
 use crate::desk::Desk;
 use crate::ends::{Buffer, Ends};
-use rly_core::{Params, limits};
+use rly_core::{Params, Refusal, limits};
 use rly_hop::{Message, OutAction, OutEvent, Sending, longest_message};
 use rly_hop_pacing::{CongestionControl, Numbers, Rate};
 use rly_link::{Link, MAX_PACKET, Turn, Waker};
@@ -26,8 +27,10 @@ pub(crate) const MAX_CALLS: u64 = limits::MAX_ROUND;
 #[derive(Drop)]
 pub(crate) struct SenderState {
     pub(crate) core: Sending,
-    /// Whether the last turn made progress.
-    pub(crate) moved: bool,
+    /// Whether a Pick of the last turn found nothing: its queue was empty, or became so.
+    pub(crate) drained: bool,
+    /// Whether another call of the last turn was refused.
+    pub(crate) failed: bool,
     /// How many Picks may be submitted together.
     pub(crate) picks: u64,
     pub(crate) pace: CongestionControl,
@@ -52,7 +55,8 @@ impl SenderState {
     {
         SenderState {
             core,
-            moved: false,
+            drained: false,
+            failed: false,
             picks: 1,
             pace: CongestionControl::new(resend, params.window, rate.is_some()),
             rate: full(rate, longest_message(params.payload) as u32),
@@ -84,11 +88,20 @@ impl SenderState {
         }
     }
 
-    /// Whether a turn waits for its first packet: the one before made no progress, or the core can only receive.
-    pub(crate) fn waits_first(&self) -> bool
-        ensures { result ≡ waits_first self.now.moved self.now.core }
+    /// Whether nothing waits, as far as it was told, and nothing is in flight.
+    pub(crate) fn is_at_rest(&self) -> bool
+        ensures { result ≡ is_at_rest self.now }
     {
-        !self.moved || self.core.can_only_hear()
+        self.drained && self.core.is_idle()
+    }
+
+    /// The moment at which it has something to send, or a Timeout, if no packet comes.
+    pub(crate) fn work_moment(&self, at: u64) -> Option<u64>
+        ensures { result ≡ work_moment self.now at }
+    {
+        let wants = wants_room(self.drained, self.core.turn_action(true));
+        let timeout = self.pace.next_timeout(at);
+        held_back(&self.rate, at, timeout, self.pace.next_moment(at, wants))
     }
 
     /// The turn's time, by the monotonic clock, and whether a contact is open then.
@@ -173,13 +186,13 @@ impl SenderState {
             (sent_on is_open at self.old (out_event_bytes event.entry)) }
         ensures ends { ends.new ≡ record ends.old { sent = ends.new.sent } }
     {
-        let progress = is_progress(&event);
+        self.drained |= is_nothing(&event);
+        self.failed |= is_refusal(&event);
         self.picks = picks_after(self.picks, &event);
         note_answer(&mut self.pace, &event);
         let named = action_on(&mut self.core, event);
         note_named(&mut self.pace, named, at);
-        let sent = send_named(is_open, at, named, buffer, &mut self.rate, ends);
-        self.moved |= progress || sent;
+        send_named(is_open, at, named, buffer, &mut self.rate, ends);
     }
 }
 
@@ -258,6 +271,23 @@ fn note_named(pace: &mut CongestionControl, named: Option<OutAction<&[u8]>>, at:
     }
 }
 
+/// Whether an answer says that there is nothing to pick.
+fn is_nothing(event: &OutEvent<&[u8]>) -> bool
+    ensures { result ≡ is_nothing (out_event_bytes event.now) }
+{
+    matches!(event, OutEvent::Nothing | OutEvent::Refused(Refusal::Empty))
+}
+
+/// Whether an answer is another refusal.
+fn is_refusal(event: &OutEvent<&[u8]>) -> bool
+    ensures { result ≡ is_refusal (out_event_bytes event.now) }
+{
+    match event {
+        OutEvent::Refused(refusal) => *refusal != Refusal::Empty,
+        _ => false,
+    }
+}
+
 /// How many Picks may be submitted together after an answer.
 fn picks_after(picks: u64, event: &OutEvent<&[u8]>) -> u64
     ensures { result ≡ picks_after picks (out_event_bytes event.now) }
@@ -269,18 +299,34 @@ fn picks_after(picks: u64, event: &OutEvent<&[u8]>) -> u64
     }
 }
 
-/// Whether an answer by itself is progress.
-fn is_progress(event: &OutEvent<&[u8]>) -> bool
-    ensures { result ≡ is_progress (out_event_bytes event.now) }
+/// Whether the core would send something new if it might: not after a Pick that found nothing.
+fn wants_room(drained: bool, action: Option<OutAction<&[u8]>>) -> bool
+    ensures { result ≡ wants_room drained (option_map out_action_bytes action.entry) }
 {
-    matches!(
-        event,
-        OutEvent::WindowIs { .. } | OutEvent::Picked(_) | OutEvent::Released
-    )
+    match action {
+        None | Some(OutAction::Send(_)) => false,
+        Some(OutAction::Pick) => !drained,
+        Some(_) => true,
+    }
 }
 
-/// Sends the message of an action, if it has one, a contact is open and the rate permits it. Returns whether a
-/// packet was sent.
+/// The next moment at which there is something to do, of the Timeout's and the pace's. If that is now, but the rate lets
+/// nothing out: as soon as it does, or the Timeout comes.
+fn held_back(rate: &Option<Rate>, at: u64, timeout: Option<u64>, moment: Option<u64>) -> Option<u64>
+    ensures { result ≡ held_back rate.now at timeout moment }
+{
+    let Some(rate) = rate else {
+        return moment;
+    };
+    let moment = moment?;
+    if moment <= at && rate.room(at) == 0 {
+        sooner(timeout, Some(rate.next_moment(at)))
+    } else {
+        Some(moment)
+    }
+}
+
+/// Sends the message of an action, if it has one, a contact is open and the rate permits it.
 fn send_named<L: Link, K: Desk, T: Turn, W: Waker>(
     is_open: bool,
     at: u64,
@@ -288,18 +334,16 @@ fn send_named<L: Link, K: Desk, T: Turn, W: Waker>(
     buffer: &mut Buffer,
     rate: &mut Option<Rate>,
     ends: &mut Ends<L, K, T, W>,
-) -> bool
+)
     ensures rate { rate.new
         ≡ rate_after rate.old (sender_packets is_open (option_map out_action_bytes action.entry)) at }
     ensures told { TellsMore ends.old.sent ends.new.sent
         (let_out rate.old (sender_packets is_open (option_map out_action_bytes action.entry)) at) }
     ensures same { ends.new ≡ record ends.old { sent = ends.new.sent } }
-    ensures whether { result
-        ≡ has_some (let_out rate.old (sender_packets is_open (option_map out_action_bytes action.entry)) at) }
 {
     match action {
         Some(OutAction::Send(message)) if is_open => ends.send_at(message, buffer, rate, at),
-        Some(_) | None => false,
+        Some(_) | None => {}
     }
 }
 
@@ -312,5 +356,16 @@ pub(crate) fn let_one_out(rate: &mut Option<Rate>, packet: &[u8], at: u64) -> bo
     match rate {
         Some(rate) => rate.take(packet.len() as u32, at),
         None => true,
+    }
+}
+
+/// The sooner of two moments, of those that there are.
+pub(crate) fn sooner(one: Option<u64>, other: Option<u64>) -> Option<u64>
+    ensures { result ≡ sooner one other }
+{
+    match (one, other) {
+        (Some(one), Some(other)) => Some(one.min(other)),
+        (None, other) => other,
+        (one, None) => one,
     }
 }

@@ -22,14 +22,14 @@ destination = 12
 hop = 1
 ";
 
-/// Three hops. The first has the minimum `resend` and `rate`, the second has neither, the third the maximum. The
-/// first has no contact, the second some that touch, the third the longest.
+/// Three hops. The first has the minimum `resend` and `rate` and the shortest `lead`, the second has none of them, the
+/// third the maximum. The first has no contact, the second some that touch, the third the longest.
 const THREE: &str = "station = 7
 peer = [{ id = 1, station = 3, listen = '', remote = '' }]
 hop = [
-  { id = 1, station = 9, listen = '', remote = '', resend = 10, rate = 1, contacts = [] },
+  { id = 1, station = 9, listen = '', remote = '', resend = 10, rate = 1, lead = 1, contacts = [] },
   { id = 2, station = 10, listen = '', remote = '', contacts = [[10, 20], [20, 30], [30, 31], [40, 41]] },
-  { id = 3, station = 11, listen = '', remote = '', resend = 3_600_000, rate = 1_000_000_000, \
+  { id = 3, station = 11, listen = '', remote = '', resend = 3_600_000, rate = 1_000_000_000, lead = 86_400, \
 contacts = [[0, 4_503_599_627_370_495]] },
 ]
 ";
@@ -66,6 +66,15 @@ fn rates(rt: &impl Abort, plan: &Plan) {
     }
 }
 
+/// A hop, and its `lead`.
+const LEAD_OF: [(u16, u32); 6] = [(0, 0), (1, 1), (2, 0), (3, 86_400), (4, 0), (65_535, 0)];
+
+fn leads(rt: &impl Abort, plan: &Plan) {
+    for (hop, lead) in &LEAD_OF {
+        expect!(rt; plan.lead(HopId(*hop)) == *lead, *hop as u64);
+    }
+}
+
 /// A hop, a moment, and the next change of its link.
 const CHANGES: [(u16, u64, Option<u64>); 12] = [
     (0, 0, None),
@@ -97,12 +106,13 @@ fn open_times(rt: &impl Abort, plan: &Plan) {
     }
 }
 
-/// A hop that doesn't exist has the default `resend`, no `rate` and a link that never opens.
+/// A hop that doesn't exist has the default `resend`, no `rate`, no `lead` and a link that never opens.
 #[test]
 fn each_hop_has_its_numbers(rt: HostRuntime) {
     let plan = Plan::from_toml(rt.alloc(), THREE).expect(&rt, "no fault");
     resends(&rt, &plan);
     rates(&rt, &plan);
+    leads(&rt, &plan);
     changes(&rt, &plan);
     open_times(&rt, &plan);
 }

@@ -5,7 +5,7 @@ ghost use Rattle.std.specs.Prelude.{◌≤◌, IfSome, None, length};
 use crate::spools::{expect_counts, take_for};
 use rly_core::{HopId, Params};
 use rly_hop::{MAX_MESSAGE, Message, StationId, read_message, write_message};
-use rly_link::{Link, LinkFault, MemTurn, MemWaker};
+use rly_link::{Link, LinkFault, MemTurn, MemWaker, Sleep};
 use rly_machine::{Machine, Payload};
 use rly_plan::Plan;
 use rly_threads_workers::{Ends, MemDesk, sender_run};
@@ -133,12 +133,10 @@ impl Link for Far {
 
     ghost failed = { λ _. 0 };
 
-    fn recv(&mut self, buffer: &mut [u8]) -> Result<Option<usize>, LinkFault> {
-        self.waits = self.waits.saturating_add(1);
-        Ok(self.receive(buffer))
-    }
-
-    fn try_recv(&mut self, buffer: &mut [u8]) -> Result<Option<usize>, LinkFault> {
+    fn recv(&mut self, sleep: Sleep, buffer: &mut [u8]) -> Result<Option<usize>, LinkFault> {
+        if sleep != Sleep::No {
+            self.waits = self.waits.saturating_add(1);
+        }
         Ok(self.receive(buffer))
     }
 

@@ -6,7 +6,7 @@ use crate::copies::{copied, queue_of, up_to, with_window};
 use crate::spools::expect_counts;
 use rly_core::HopId;
 use rly_hop::{MAX_MESSAGE, Message, StationId, marks, read_message, with_mark, write_message};
-use rly_link::{Link, LinkFault, MemTurn, MemWaker};
+use rly_link::{Link, LinkFault, MemTurn, MemWaker, Sleep};
 use rly_plan::Plan;
 use rly_threads_workers::{Ends, MemDesk, sender_run};
 use std::alloc::Global;
@@ -189,11 +189,8 @@ impl Link for Far {
 
     ghost failed = { λ _. 0 };
 
-    fn recv(&mut self, buffer: &mut [u8]) -> Result<Option<usize>, LinkFault> {
-        Ok(self.receive(buffer))
-    }
-
-    fn try_recv(&mut self, buffer: &mut [u8]) -> Result<Option<usize>, LinkFault> {
+    fn recv(&mut self, sleep: Sleep, buffer: &mut [u8]) -> Result<Option<usize>, LinkFault> {
+        let _ = sleep;
         Ok(self.receive(buffer))
     }
 

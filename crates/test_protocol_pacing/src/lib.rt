@@ -31,6 +31,8 @@ mod rates;
 #[cfg(test)]
 mod script;
 #[cfg(test)]
+mod sleeps;
+#[cfg(test)]
 mod spools;
 #[cfg(test)]
 mod timeouts;

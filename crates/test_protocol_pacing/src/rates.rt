@@ -17,6 +17,30 @@ fn slow_link(rt: HostRuntime) {
     expect!(rt; rate.take(1_218, 1_038_334), 6);
 }
 
+/// The first moment with room for one of the longest: of 1,246 bytes at 1,200 a second after two were sent.
+#[test]
+fn next_moments(rt: HostRuntime) {
+    let mut rate = Rate::new(1_200, 1_218, 0);
+    expect!(rt; rate.next_moment(0) == 0, 30);
+    expect!(rt; rate.take(1_218, 0), 31);
+    expect!(rt; rate.next_moment(5) == 5, 32);
+    expect!(rt; rate.take(1_218, 0), 33);
+    expect!(rt; rate.next_moment(0) == 1_038_334, 34);
+    expect!(rt; rate.next_moment(1_038_333) == 1_038_334, 35);
+    expect!(rt; rate.next_moment(1_038_334) == 1_038_334, 36);
+    expect!(rt; rate.next_moment(2_000_000) == 2_000_000, 37);
+}
+
+/// Without a rate there is none once the burst was sent.
+#[test]
+fn no_next_moment(rt: HostRuntime) {
+    let mut rate = Rate::new(0, 972, 5);
+    expect!(rt; rate.take(972, 5), 40);
+    expect!(rt; rate.next_moment(6) == 6, 41);
+    expect!(rt; rate.take(972, 6), 42);
+    expect!(rt; rate.next_moment(7) == u64::MAX, 43);
+}
+
 /// A clock that falls adds no credit, and none twice as it rises again.
 #[test]
 fn falling_clock(rt: HostRuntime) {

@@ -26,9 +26,11 @@ pub(crate) enum Act<'a> {
     Room(u64),
     /// So many of the numbers below the first weren't sent since the core last started again.
     Unsent(u64, u64),
+    /// Whether the core wants to send something new, and the next moment with something to do; 0 for none.
+    Next(bool, u64),
 }
 
-use Act::{Again, Contact, Custody, Few, Hears, Room, Sends, Spare, Unsent, WindowIs};
+use Act::{Again, Contact, Custody, Few, Hears, Next, Room, Sends, Spare, Unsent, WindowIs};
 
 /// A hop: its `resend` in milliseconds, its window, and whether it has a rate.
 pub(crate) type Hop = (u32, u64, bool);
@@ -85,6 +87,7 @@ fn is_done(pace: &mut CongestionControl, at: u64, act: Act<'_>) -> bool {
         Spare(number) => return pace.spare(at).unwrap_or(0) == number,
         Room(count) => return pace.room(at) == count,
         Unsent(next, count) => return pace.unsent_count(next) == count,
+        Next(wants, moment) => return pace.next_moment(at, wants).unwrap_or(0) == moment,
     }
     true
 }

@@ -25,6 +25,8 @@ mod flushers;
 #[cfg(test)]
 mod lines;
 #[cfg(test)]
+mod pauses;
+#[cfg(test)]
 mod rounds;
 #[cfg(test)]
 mod served;

@@ -142,7 +142,7 @@ fn broken_by<R: Abort + Threads + Wait + Clock + Copy + Send + 'static>(
 }
 
 /// A journal that broke in its first round.
-fn broken_journal<R: Abort + Threads + Wait + Clock + Copy + Send + 'static>(
+pub(super) fn broken_journal<R: Abort + Threads + Wait + Clock + Copy + Send + 'static>(
     rt: R,
     alloc: Global,
 ) -> Journal<FaultDisk<MemDisk>> {

@@ -61,7 +61,7 @@ pub(super) struct Left {
 }
 
 /// A flusher over a journal, and this many seats at a queue of this capacity.
-fn flusher_over<R: Abort, D: Disk + Drop>(
+pub(super) fn flusher_over<R: Abort, D: Disk + Drop>(
     rt: &R,
     alloc: Global,
     journal: Journal<D>,
@@ -79,7 +79,11 @@ fn flusher_over<R: Abort, D: Disk + Drop>(
 }
 
 /// The number of rounds that a flusher makes, up to a maximum, until it finds no seat.
-fn rounds_up_to<R: Wait, D: Disk + Drop>(rt: &R, flusher: &mut Flusher<D>, most: u64) -> u64 {
+pub(super) fn rounds_up_to<R: Wait + Clock, D: Disk + Drop>(
+    rt: &R,
+    flusher: &mut Flusher<D>,
+    most: u64,
+) -> u64 {
     let mut rounds = 0u64;
     for _round in 0..most {
         if !flusher.round(rt) {
@@ -91,7 +95,7 @@ fn rounds_up_to<R: Wait, D: Disk + Drop>(rt: &R, flusher: &mut Flusher<D>, most:
 }
 
 /// Callers, each in a thread of its own.
-fn all_asking<R: Abort + Threads + Wait + Copy + Send + 'static, D: Disk + Drop>(
+fn all_asking<R: Abort + Threads + Wait + Clock + Copy + Send + 'static, D: Disk + Drop>(
     rt: R,
     alloc: Global,
     seats: Vec<Seat>,
@@ -123,7 +127,7 @@ fn begun<R: Abort + Threads + Wait + Clock + Copy + Send + 'static, D: Disk + Dr
 }
 
 /// A flusher serves these callers to their end, and keeps its end of the queues until all had their answers.
-fn ended<R: Threads + Wait, D: Disk + Drop>(
+fn ended<R: Threads + Wait + Clock, D: Disk + Drop>(
     rt: &R,
     flusher: Flusher<D>,
     all: Vec<Asking>,

@@ -91,14 +91,18 @@ fn expect_cut<R: Abort>(rt: &R, left: &Left) {
 }
 
 /// The result of a relay of three posts on a device whose call of this number fails.
-fn left_at<R: Abort + Threads + Wait + Sync>(rt: &R, clock: HostRuntime, call: u64) -> Left {
+fn left_at<R: Abort + Threads + Wait + Clock + Sync>(
+    rt: &R,
+    clock: HostRuntime,
+    call: u64,
+) -> Left {
     let alloc = clock.alloc();
     let posts = posts(rt, clock);
     left_by(rt, alloc, journal_failing(rt, alloc, call), posts)
 }
 
 /// Checks that such a relay ends.
-fn expect_ends<R: Abort + Threads + Wait + Sync>(rt: &R, clock: HostRuntime) {
+fn expect_ends<R: Abort + Threads + Wait + Clock + Sync>(rt: &R, clock: HostRuntime) {
     for call in 1..=4 {
         expect_cut(rt, &left_at(rt, clock, call));
     }

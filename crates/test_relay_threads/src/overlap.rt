@@ -132,7 +132,7 @@ fn expect_taken<R: Abort>(rt: &R, left: &Left) {
 }
 
 /// The result of a relay with this worker held.
-fn left_of<'a, R: Abort + Threads + Wait + Sync>(
+fn left_of<'a, R: Abort + Threads + Wait + Clock + Sync>(
     rt: &R,
     clock: HostRuntime,
     held: Worker,
@@ -145,7 +145,11 @@ fn left_of<'a, R: Abort + Threads + Wait + Sync>(
 }
 
 /// Checks that the other two are answered while this worker is held.
-fn expect_overlap<R: Abort + Threads + Wait + Sync>(rt: &R, clock: HostRuntime, held: Worker) {
+fn expect_overlap<R: Abort + Threads + Wait + Clock + Sync>(
+    rt: &R,
+    clock: HostRuntime,
+    held: Worker,
+) {
     let answered = AtomicU64::new(0);
     let gave_up = AtomicU64::new(0);
     expect_taken(rt, &left_of(rt, clock, held, &answered, &gave_up));
@@ -154,7 +158,7 @@ fn expect_overlap<R: Abort + Threads + Wait + Sync>(rt: &R, clock: HostRuntime, 
 }
 
 /// Checks it of each worker.
-fn expect_overlaps<R: Abort + Threads + Wait + Sync>(rt: &R, clock: HostRuntime) {
+fn expect_overlaps<R: Abort + Threads + Wait + Clock + Sync>(rt: &R, clock: HostRuntime) {
     for held in WORKERS {
         expect_overlap(rt, clock, held);
     }

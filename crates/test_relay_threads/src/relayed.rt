@@ -10,6 +10,7 @@ use std::alloc::Global;
 use std::process::Abort;
 use std::sync::Wait;
 use std::thread::Threads;
+use std::time::{Clock, Duration};
 
 /// Station 7, with stations 3 and 4 upstream and station 9 as the next hop.
 const PLAN: &str = r#"
@@ -82,7 +83,7 @@ pub(super) fn plan<R: Abort>(rt: &R, alloc: Global) -> Plan {
 }
 
 /// Runs a relay of these posts to its end.
-fn relayed<R: Abort + Threads + Wait + Sync, D: Disk + Drop, T: Turn + Drop + Send>(
+fn relayed<R: Abort + Threads + Wait + Clock + Sync, D: Disk + Drop, T: Turn + Drop + Send>(
     rt: &R,
     alloc: Global,
     journal: Journal<D>,
@@ -92,13 +93,14 @@ fn relayed<R: Abort + Threads + Wait + Sync, D: Disk + Drop, T: Turn + Drop + Se
     if posts.is_empty() || posts.len() > 256 {
         panic!(rt; "1 to 256 posts");
     }
-    run_relay(rt, alloc, journal, &plan, posts)
+    let mut bell = MemWaker::new();
+    run_relay(rt, alloc, journal, Duration::ZERO, &plan, posts, &mut bell)
         .ok()
         .expect(rt, "a relay")
 }
 
 /// Runs a relay of these posts to its end, and returns its result and its journal.
-pub(super) fn run<R: Abort + Threads + Wait + Sync, D: Disk + Drop, T: Turn + Drop + Send>(
+pub(super) fn run<R: Abort + Threads + Wait + Clock + Sync, D: Disk + Drop, T: Turn + Drop + Send>(
     rt: &R,
     alloc: Global,
     journal: Journal<D>,
@@ -109,12 +111,11 @@ pub(super) fn run<R: Abort + Threads + Wait + Sync, D: Disk + Drop, T: Turn + Dr
 }
 
 /// The same without the journal.
-pub(super) fn left_by<R: Abort + Threads + Wait + Sync, D: Disk + Drop, T: Turn + Drop + Send>(
-    rt: &R,
-    alloc: Global,
-    journal: Journal<D>,
-    posts: Vec<Post<MemLink, T, MemWaker>>,
-) -> Left {
+pub(super) fn left_by<
+    R: Abort + Threads + Wait + Clock + Sync,
+    D: Disk + Drop,
+    T: Turn + Drop + Send,
+>(rt: &R, alloc: Global, journal: Journal<D>, posts: Vec<Post<MemLink, T, MemWaker>>) -> Left {
     let (left, _journal) = run(rt, alloc, journal, posts);
     left
 }

@@ -14,6 +14,7 @@ use std::alloc::Global;
 use std::process::Abort;
 use std::sync::Wait;
 use std::thread::Threads;
+use std::time::Clock;
 
 /// A number of turns, all at one moment.
 #[derive(Drop)]
@@ -90,7 +91,10 @@ fn posts<R: Abort>(
 }
 
 /// The journal of a relay of one worker, which stored 70 datagrams in two turns.
-fn journal_of_70<R: Abort + Threads + Wait + Sync>(rt: &R, alloc: Global) -> Journal<MemDisk> {
+fn journal_of_70<R: Abort + Threads + Wait + Clock + Sync>(
+    rt: &R,
+    alloc: Global,
+) -> Journal<MemDisk> {
     let posts = posts(rt, alloc, 1, (1, 70));
     let (left, journal) = run(rt, alloc, new_journal(rt, alloc), posts);
     expect!(*rt; left.complete && !left.is_cut);
@@ -100,7 +104,7 @@ fn journal_of_70<R: Abort + Threads + Wait + Sync>(rt: &R, alloc: Global) -> Jou
 }
 
 /// Runs a relay that stores 70 datagrams, and one over its journal that stores the next.
-fn take_71<R: Abort + Threads + Wait + Sync>(rt: &R, alloc: Global) {
+fn take_71<R: Abort + Threads + Wait + Clock + Sync>(rt: &R, alloc: Global) {
     let posts = posts(rt, alloc, 1, (71, 71));
     let left = left_by(rt, alloc, journal_of_70(rt, alloc), posts);
     expect!(*rt; left.complete && !left.broken);
@@ -115,7 +119,7 @@ fn a_worker_alone_takes_full_batches(rt: HostRuntime) {
 }
 
 /// Runs a relay of 256 workers, of which the first receives a datagram.
-fn run_wide<R: Abort + Threads + Wait + Sync>(rt: &R, alloc: Global) {
+fn run_wide<R: Abort + Threads + Wait + Clock + Sync>(rt: &R, alloc: Global) {
     let posts = posts(rt, alloc, 256, (1, 1));
     let left = left_by(
         rt,
@@ -135,7 +139,7 @@ fn as_many_workers_as_a_line_has_seats(rt: HostRuntime) {
 }
 
 /// A journal that broke in the first round of a relay.
-fn broken_journal<R: Abort + Threads + Wait + Sync>(
+fn broken_journal<R: Abort + Threads + Wait + Clock + Sync>(
     rt: &R,
     alloc: Global,
 ) -> Journal<FaultDisk<MemDisk>> {
@@ -151,7 +155,7 @@ fn broken_journal<R: Abort + Threads + Wait + Sync>(
 }
 
 /// Runs a relay over a broken journal. It reports this, and its worker sends nothing.
-fn run_broken<R: Abort + Threads + Wait + Sync>(rt: &R, alloc: Global) {
+fn run_broken<R: Abort + Threads + Wait + Clock + Sync>(rt: &R, alloc: Global) {
     let posts = posts(rt, alloc, 1, (1, 1));
     let left = left_by(rt, alloc, broken_journal(rt, alloc), posts);
     expect!(*rt; left.broken && left.is_cut);

@@ -194,13 +194,13 @@ fn flusher_over<R: Abort, D: Disk + Drop>(
 }
 
 /// The result of a flusher after it served its seats.
-fn served<R: Wait, D: Disk + Drop>(rt: &R, flusher: Flusher<D>) -> Finished<D> {
+fn served<R: Wait + Clock, D: Disk + Drop>(rt: &R, flusher: Flusher<D>) -> Finished<D> {
     flusher.serve(rt)
 }
 
 /// A flusher serves both receivers to their end, and keeps its end of the queues until they had their answers.
 /// Returns whether its journal is broken, and the answers of each.
-fn ended<R: Abort + Threads + Wait, D: Disk + Drop>(
+fn ended<R: Abort + Threads + Wait + Clock, D: Disk + Drop>(
     rt: &R,
     flusher: Flusher<D>,
     (one, other): (JoinHandle<Told>, JoinHandle<Told>),

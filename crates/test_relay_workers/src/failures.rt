@@ -51,11 +51,11 @@ const ROWS: [Failing; 4] = [
         )],
     },
     // It asks for the window, picks, and fetches three times: the datagram is sent in the third turn, a second or
-    // ten turns later, and 20 turns after that, and stays in flight. The receives after the window and after the
-    // pick don't wait, since work is left then. Once the datagram was sent the core can only receive.
+    // ten turns later, and 20 turns after that, and stays in flight. The first three turns don't wait, since
+    // they have something to do. Once the datagram was sent the core can only receive.
     Failing {
         script: IN_SILENCE,
-        done: [5, 3, 62, 67],
+        done: [5, 3, 61, 67],
         counts: [0, 1, 0],
         sends: &[4, 15, 36],
         hears: &[],
@@ -65,8 +65,7 @@ const ROWS: [Failing; 4] = [
     // In turn 41 the datagram was sent last 800 ms ago, less than 7/8 of a round trip, which is a second at first. So
     // an earlier sending was heard, and the round goes on.
     // Each of these turns has one more receive, which finds nothing. The sender releases, and asks for the next
-    // datagram with the release and in each turn after it, without success. The receives after the window, the pick
-    // and the release don't wait.
+    // datagram with the release and in each turn after it, without success. The first three turns don't wait.
     Failing {
         script: Script {
             shows: "the datagram is released once its custody was heard, and doesn't go out after that",
@@ -88,7 +87,7 @@ const ROWS: [Failing; 4] = [
     // Its `resend` of three seconds is 30 turns, so the datagram is sent in turns 3 and 33.
     Failing {
         script: AT_HOP_2,
-        done: [4, 2, 62, 66],
+        done: [4, 2, 61, 66],
         counts: [0, 1, 0],
         sends: &[4, 35],
         hears: &[],

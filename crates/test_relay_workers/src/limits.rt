@@ -86,7 +86,7 @@ fn expect_packets<R: Abort + Wait>(
     };
     let desk = desk(rt, alloc, &receiver);
     let desk = desk_after(rt, alloc, &receiver, &(2, [1, 1, 2, 4], [1, 0, 0]), desk);
-    let _ = desk_after(rt, alloc, &sender, &(3, [4, 1, 1, 4], [0, 1, 0]), desk);
+    let _ = desk_after(rt, alloc, &sender, &(3, [4, 1, 0, 4], [0, 1, 0]), desk);
 }
 
 /// Checks a row.

@@ -3,7 +3,7 @@
 use crate::script::EMPTY;
 use crate::workers::{Packets, are_sent, link, machine};
 use rly_core::HopId;
-use rly_link::{Link, MAX_PACKET, MemLink};
+use rly_link::{Link, MAX_PACKET, MemLink, Sleep};
 use rly_machine::{Ask, Query, Reply};
 use rly_threads_workers::{Desk, MemDesk};
 use std::alloc::Global;
@@ -16,7 +16,7 @@ const MANY: usize = 1_100;
 /// Checks that a link receives this packet, and sends it.
 fn expect_passed<R: Abort>(rt: &R, link: &mut MemLink, packet: &[u8]) {
     let mut buffer = [0; MAX_PACKET];
-    expect!(*rt; link.try_recv(&mut buffer) == Ok(Some(packet.len())));
+    expect!(*rt; link.recv(Sleep::No, &mut buffer) == Ok(Some(packet.len())));
     expect!(*rt; buffer.starts_with(packet));
     expect!(*rt; link.send(packet) == Ok(()));
 }
@@ -27,7 +27,7 @@ fn expect_carried<R: Abort>(rt: &R, link: &mut MemLink, packet: &[u8], last: &[u
         expect_passed(rt, link, packet);
     }
     expect_passed(rt, link, last);
-    expect!(*rt; link.try_recv(&mut [0; 8]) == Ok(None) && link.failures() == 0);
+    expect!(*rt; link.recv(Sleep::No, &mut [0; 8]) == Ok(None) && link.failures() == 0);
 }
 
 /// Checks that a link stores all that it sent.

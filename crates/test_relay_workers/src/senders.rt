@@ -67,18 +67,17 @@ pub(super) fn expect_senders<'a, R: Abort + Wait>(rt: &R, alloc: Global, cases: 
 }
 
 const CONTACTS: [Case<'static>; 4] = [
-    // It waits initially, after the datagram was sent, and after a turn in which the spool had nothing more to
-    // pick.
+    // It waits after the datagram was sent, and after each Pick that found nothing.
     (
         "a sender asks for the window, picks, fetches and sends, and releases what is kept, beside which it picks",
         [1, 1, 150, 1, 0, 0],
         &[(3, OF_9, &[1])],
         &[(0, TO_9, &[1, 1, 1])],
         &[
-            (1, [1, 0, 1, ANY], [1, 0, 0]),
-            (2, [2, 0, 1, ANY], [0, 1, 0]),
-            (3, [3, 1, 1, ANY], [0, 1, 0]),
-            (4, [5, 1, 2, ANY], [0, 0, 1]),
+            (1, [1, 0, 0, ANY], [1, 0, 0]),
+            (2, [2, 0, 0, ANY], [0, 1, 0]),
+            (3, [3, 1, 0, ANY], [0, 1, 0]),
+            (4, [5, 1, 1, ANY], [0, 0, 1]),
             (5, [6, 1, 2, ANY], [0, 0, 1]),
             (6, [7, 1, 3, ANY], [0, 0, 1]),
             (7, [8, 1, 4, ANY], [0, 0, 1]),
@@ -98,16 +97,16 @@ const CONTACTS: [Case<'static>; 4] = [
         &[(0, TO_9, &[1, 1, 1])],
         &[(6, [4, 1, ANY, ANY], [1, 0, 1])],
     ),
-    // All turns waited except the second and the third, which had work left.
+    // All turns waited but the first three, which had work left, and the fourth, whose contact had ended.
     (
         "what was fetched within a contact and answered after its end is held back, and sent as the next contact opens",
         [1, 1, 130, 10, 20, 0],
         &[],
         &[(0, TO_9, &[1, 1, 1])],
         &[
-            (3, [ANY, 0, 1, ANY], [0, 1, 0]),
-            (11, [ANY, 0, 9, ANY], [0, 1, 0]),
-            (12, [ANY, 1, 10, ANY], [0, 1, 0]),
+            (3, [ANY, 0, 0, ANY], [0, 1, 0]),
+            (11, [ANY, 0, 7, ANY], [0, 1, 0]),
+            (12, [ANY, 1, 8, ANY], [0, 1, 0]),
         ],
     ),
 ];
@@ -185,20 +184,20 @@ const BATCHES: [Case<'static>; 5] = [
             (22, [16, 7, ANY, ANY], [3, 4, 3]),
         ],
     ),
-    // Of the two Picks of the fourth turn one finds nothing, so that one is submitted per turn from there on. The
-    // first turn waits, and so does each one after a turn whose Pick found nothing.
+    // Of the two Picks of the fourth turn one finds nothing, so that one is submitted per turn from there on. Each
+    // turn waits after one whose Pick found nothing.
     (
         "a hop for which nothing waits is asked for by one Pick a turn",
         [2, 64, 1_000, 1, 0, 0],
         &[],
         &[(0, TO_9, &[1, 2])],
         &[
-            (3, [3, 1, 1, ANY], [1, 1, 0]),
-            (4, [5, 1, 1, ANY], [0, 2, 0]),
-            (5, [6, 2, 1, ANY], [0, 2, 0]),
-            (6, [7, 2, 1, ANY], [0, 2, 0]),
-            (7, [8, 2, 2, ANY], [0, 2, 0]),
-            (20, [21, 2, 15, ANY], [0, 2, 0]),
+            (3, [3, 1, 0, ANY], [1, 1, 0]),
+            (4, [5, 1, 0, ANY], [0, 2, 0]),
+            (5, [6, 2, 0, ANY], [0, 2, 0]),
+            (6, [7, 2, 0, ANY], [0, 2, 0]),
+            (7, [8, 2, 1, ANY], [0, 2, 0]),
+            (20, [21, 2, 14, ANY], [0, 2, 0]),
         ],
     ),
     // 70 copies of a custody arrive from the fourth turn on. Before it the worker received three times and sent one
@@ -312,7 +311,7 @@ fn one_call_is_refused(rt: HostRuntime) {
 }
 
 /// Without packets received the third turn sends the datagram. The first turn from a second after that on sends it
-/// again, and the first from two seconds after that on once more. All turns wait except the second and the third.
+/// again, and the first from two seconds after that on once more. All turns wait but the first three.
 const TIMEOUTS: [Case<'static>; 5] = [
     (
         "turns of 10 ms",
@@ -320,10 +319,10 @@ const TIMEOUTS: [Case<'static>; 5] = [
         &[],
         &[(0, TO_9, &[1, 1, 1])],
         &[
-            (102, [3, 1, 100, ANY], [0, 1, 0]),
-            (103, [4, 2, 101, ANY], [0, 1, 0]),
-            (302, [4, 2, 300, ANY], [0, 1, 0]),
-            (303, [5, 3, 301, ANY], [0, 1, 0]),
+            (102, [3, 1, 99, ANY], [0, 1, 0]),
+            (103, [4, 2, 100, ANY], [0, 1, 0]),
+            (302, [4, 2, 299, ANY], [0, 1, 0]),
+            (303, [5, 3, 300, ANY], [0, 1, 0]),
         ],
     ),
     (
@@ -332,8 +331,8 @@ const TIMEOUTS: [Case<'static>; 5] = [
         &[],
         &[(0, TO_9, &[1, 1, 1])],
         &[
-            (103, [3, 1, 101, ANY], [0, 1, 0]),
-            (104, [4, 2, 102, ANY], [0, 1, 0]),
+            (103, [3, 1, 100, ANY], [0, 1, 0]),
+            (104, [4, 2, 101, ANY], [0, 1, 0]),
         ],
     ),
     (
@@ -342,8 +341,8 @@ const TIMEOUTS: [Case<'static>; 5] = [
         &[],
         &[(0, TO_9, &[1, 1, 1])],
         &[
-            (402, [3, 1, 400, ANY], [0, 1, 0]),
-            (403, [4, 2, 401, ANY], [0, 1, 0]),
+            (402, [3, 1, 399, ANY], [0, 1, 0]),
+            (403, [4, 2, 400, ANY], [0, 1, 0]),
         ],
     ),
     // The second begins once the call that fetched the datagram is answered.
@@ -353,8 +352,8 @@ const TIMEOUTS: [Case<'static>; 5] = [
         &[],
         &[(0, TO_9, &[1, 1, 1])],
         &[
-            (102, [3, 1, 100, ANY], [0, 1, 0]),
-            (103, [4, 2, 101, ANY], [0, 1, 0]),
+            (102, [3, 1, 99, ANY], [0, 1, 0]),
+            (103, [4, 2, 100, ANY], [0, 1, 0]),
         ],
     ),
     (
@@ -363,8 +362,8 @@ const TIMEOUTS: [Case<'static>; 5] = [
         &[],
         &[(0, TO_9, &[1, 1, 1])],
         &[
-            (22, [3, 1, 20, ANY], [0, 1, 0]),
-            (23, [4, 2, 21, ANY], [0, 1, 0]),
+            (22, [3, 1, 19, ANY], [0, 1, 0]),
+            (23, [4, 2, 20, ANY], [0, 1, 0]),
         ],
     ),
 ];

@@ -230,6 +230,8 @@ impl Waker for Counting {
         self.wakes = self.wakes.saturating_add(1);
         self.hop = hop;
     }
+
+    fn wake_all(&mut self) {}
 }
 
 /// The interfaces of a worker in these tests.

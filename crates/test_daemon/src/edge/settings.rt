@@ -59,6 +59,7 @@ const DEFAULTS: [Given; 7] = [
             plan: "plan.toml",
             turns: 0,
             report: 0,
+            gather: 0,
         },
     ),
     (&["rly", "key"], Settings::Key),
@@ -129,6 +130,8 @@ const GIVEN: [Given; 5] = [
             "20",
             "--report=15",
             "spool",
+            "--gather",
+            "60000",
             "plan.toml",
         ],
         Settings::Serve {
@@ -136,6 +139,7 @@ const GIVEN: [Given; 5] = [
             plan: "plan.toml",
             turns: 20,
             report: 15,
+            gather: 60_000,
         },
     ),
     (
@@ -224,7 +228,7 @@ fn expect_sim(rt: &(impl Abort + AllocGlobal), text: &str, number: u64) {
     expect_settings(rt, words.as_slice(), &Settings::Sim { params });
 }
 
-/// The options of `serve` with one number.
+/// The options of `serve` that have no limit, with one number.
 fn expect_serve(rt: &(impl Abort + AllocGlobal), text: &str, number: u64) {
     let words = [
         "rly",
@@ -241,6 +245,7 @@ fn expect_serve(rt: &(impl Abort + AllocGlobal), text: &str, number: u64) {
         plan: "plan.toml",
         turns: number,
         report: number,
+        gather: 0,
     };
     expect_settings(rt, words.as_slice(), &wanted);
 }
@@ -268,6 +273,7 @@ fn expect_path(rt: &(impl Abort + AllocGlobal), path: &str) {
         plan: path,
         turns: 0,
         report: 0,
+        gather: 0,
     };
     expect_settings(rt, ["rly", "serve", "spool", path].as_slice(), &served);
 }

@@ -1,7 +1,7 @@
 //! A link with a key over a link in memory.
 use crate::auth::keys::{CUSTODY, LINE, OTHER, TAG};
 use crate::auth::packets::{key_of, with_tag};
-use rly_link::{Link, LinkFault, MAX_PACKET, MemLink};
+use rly_link::{Link, LinkFault, MAX_PACKET, MemLink, Sleep};
 use rly_link_auth::{Sealed, StationLink};
 use std::alloc::Global;
 use std::process::Abort;
@@ -24,15 +24,15 @@ fn sealed_over<R: Abort>(rt: &R, alloc: Global, text: &str, coming: &[&[u8]]) ->
 /// A receive that waits returns this packet, and so does one that doesn't.
 fn expect_twice<R: Abort, L: Link>(rt: &R, link: &mut L, packet: &[u8]) {
     let mut buffer = [0; MAX_PACKET];
-    expect!(*rt; link.recv(&mut buffer) == Ok(Some(packet.len())));
+    expect!(*rt; link.recv(Sleep::Woken, &mut buffer) == Ok(Some(packet.len())));
     expect!(*rt; buffer.starts_with(packet));
-    expect!(*rt; link.try_recv(&mut buffer) == Ok(Some(packet.len())));
+    expect!(*rt; link.recv(Sleep::No, &mut buffer) == Ok(Some(packet.len())));
 }
 
 /// A receive that waits returns nothing, and this many tags were wrong by then.
 fn expect_nothing<R: Abort>(rt: &R, link: &mut Sealed<MemLink>, wrong: u64) {
     let mut buffer = [0; MAX_PACKET];
-    expect!(*rt; link.recv(&mut buffer) == Ok(None));
+    expect!(*rt; link.recv(Sleep::Woken, &mut buffer) == Ok(None));
     expect!(*rt; link.wrong_tags() == wrong);
 }
 

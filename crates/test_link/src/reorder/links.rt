@@ -3,7 +3,7 @@
 use crate::expect::expect_row;
 use crate::reorder::packets::{custody, data, heard, limited, put, refused};
 use rly_hop::StationId;
-use rly_link::{Link, LinkFault, MAX_PACKET, MemLink};
+use rly_link::{Link, LinkFault, MAX_PACKET, MemLink, Sleep};
 use rly_link_reorder::{ReorderBuffer, ReorderedLink};
 use std::alloc::Global;
 use std::process::Abort;
@@ -76,10 +76,8 @@ fn gives<R: Abort>(
     row: u64,
 ) {
     let mut buffer = [0; MAX_PACKET];
-    let found = match waits {
-        true => link.recv(&mut buffer),
-        false => link.try_recv(&mut buffer),
-    };
+    let sleep = if waits { Sleep::Woken } else { Sleep::No };
+    let found = link.recv(sleep, &mut buffer);
     expect_row(rt, found == Ok(Some(packet.len())), "given", row);
     expect_row(rt, buffer.starts_with(packet), "itself", row);
 }
@@ -87,7 +85,7 @@ fn gives<R: Abort>(
 /// The result of a receive that waits, whatever the packet.
 fn waited(link: &mut ReorderedLink<MemLink>) -> Result<Option<usize>, LinkFault> {
     let mut buffer = [0; MAX_PACKET];
-    link.recv(&mut buffer)
+    link.recv(Sleep::Woken, &mut buffer)
 }
 
 /// Whether an act without a packet is observed.

@@ -13,6 +13,7 @@ use std::process::Abort;
 use std::sync::Wait;
 use std::thread;
 use std::thread::Threads;
+use std::time::Clock;
 use test_support::{before, was_refused};
 
 /// Four peers, on two segments of the minimum length.
@@ -106,7 +107,7 @@ fn ask_three<R: Abort + Wait>(rt: &R, alloc: Global, mut seat: Seat) -> ([u64; 3
 }
 
 /// Returns the number of takes on a device. The journal of a committer was used before.
-fn standing_on<R: Abort + Wait>(rt: &R, alloc: Global, disk: MemDisk) -> u64 {
+fn standing_on<R: Abort + Wait + Clock>(rt: &R, alloc: Global, disk: MemDisk) -> u64 {
     let (seat, flusher) = flusher_of(rt, alloc, disk);
     drop(seat);
     let finished = flusher.serve(rt);
@@ -117,7 +118,7 @@ fn standing_on<R: Abort + Wait>(rt: &R, alloc: Global, disk: MemDisk) -> u64 {
 /// A seat in its own thread gets the reply to each take that it was taken, or that an allocation failed, and these
 /// weren't taken. If the disk in memory couldn't grow the reply is Unsure, and there is none after that: that take is
 /// recovered or not.
-fn expect_told<R: Abort + Threads + Wait + Copy + Send + 'static>(rt: R, alloc: Global) {
+fn expect_told<R: Abort + Threads + Wait + Clock + Copy + Send + 'static>(rt: R, alloc: Global) {
     let (seat, flusher) = flusher_of(&rt, alloc, device(&rt, alloc));
     let asking = thread::spawn(&rt, move || ask_three(&rt, alloc, seat))
         .ok()

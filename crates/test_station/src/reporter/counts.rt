@@ -5,7 +5,7 @@ use rly_core::{HopId, PeerId};
 use rly_daemon_report::{Counted, HopCounts, LinkCounts, LinkReport, PeerCounts, PeerReport};
 use rly_daemon_reporter::{CountedLink, Counters, Tally};
 use rly_hop::StationId;
-use rly_link::{Link, MemLink, Worker};
+use rly_link::{Link, MemLink, Sleep, Worker};
 use rly_plan::Plan;
 use std::alloc::Global;
 use std::process::Abort;
@@ -39,9 +39,9 @@ fn link_below(rt: &impl Abort, alloc: Global, packet: &[u8]) -> MemLink {
 /// Makes three receives of a link and three sends, one of which fails: of the first packet twice, then of the other.
 fn use_link<L: Link>(rt: &impl Abort, link: &mut L, length: usize, packets: [&[u8]; 2]) {
     let mut buffer = [0; 100];
-    expect!(rt; link.recv(&mut buffer) == Ok(Some(length)));
-    expect!(rt; link.try_recv(&mut buffer) == Ok(None));
-    expect!(rt; link.try_recv(&mut buffer) == Ok(Some(length.saturating_sub(1))));
+    expect!(rt; link.recv(Sleep::Woken, &mut buffer) == Ok(Some(length)));
+    expect!(rt; link.recv(Sleep::No, &mut buffer) == Ok(None));
+    expect!(rt; link.recv(Sleep::No, &mut buffer) == Ok(Some(length.saturating_sub(1))));
     expect!(rt; link.send(packets[0]).is_ok());
     expect!(rt; link.send(packets[0]).is_err());
     expect!(rt; link.send(packets[1]).is_ok());

@@ -200,8 +200,19 @@ fn relay<'a, R: Abort + Threads + Wait + Clock + Sync + Copy + Send + Drop, D: D
     assert!(rt; posts.len() == 2);
     let stop_flag = pace.stop_flag;
     let counters = Rising::new();
+    let mut bell = MemWaker::new();
     let ran = run_reported(
-        rt, alloc, journal, &plan, posts, pace, counters, written, stop_flag,
+        rt,
+        alloc,
+        journal,
+        Duration::ZERO,
+        &plan,
+        posts,
+        &mut bell,
+        pace,
+        counters,
+        written,
+        stop_flag,
     );
     let Ok(reported) = ran else {
         panic!(rt; "no relay");

@@ -1,10 +1,10 @@
 //! A link over loopback, and the wall clock.
 
 use rly_core::PeerId;
-use rly_link::{Link, MAX_PACKET, Point, Turn, Worker};
+use rly_link::{Link, MAX_PACKET, Point, Sleep, Turn, Worker};
 use rly_link_udp::{UdpLink, WallClock};
 use rly_plan::Plan;
-use rly_station::End;
+use rly_station::{End, moment_of};
 use std::net::{Net, UdpSocket};
 use std::process::Abort;
 use std::sync::Wait;
@@ -90,7 +90,7 @@ fn expect_heard(
 ) {
     let mut buffer = [0; MAX_PACKET];
     put(rt, sent, "127.0.0.1:4021");
-    expect!(*rt; link.recv(&mut buffer) == Ok(Some(count)));
+    expect!(*rt; link.recv(Sleep::Woken, &mut buffer) == Ok(Some(count)));
     expect!(*rt; buffer.get(..count) == sent.get(..count));
 }
 
@@ -118,7 +118,7 @@ fn neighbour_s(rt: &(impl Abort + Host)) -> UdpSocket {
 
 /// Checks which packets a link receives, and which it sends.
 fn expect_carried(rt: &(impl Abort + Host), link: &mut UdpLink<HostRuntime>) {
-    expect!(*rt; link.recv(&mut [0; MAX_PACKET]) == Ok(None));
+    expect!(*rt; link.recv(Sleep::No, &mut [0; MAX_PACKET]) == Ok(None));
     expect_heard(rt, link, b"abc", 3);
     expect_heard(rt, link, &[7; 8_231], 8_231);
     expect_heard(rt, link, &[7; 8_400], MAX_PACKET);
@@ -160,7 +160,7 @@ fn now(rt: &(impl Abort + Host)) -> Duration {
 fn expect_tried(rt: &(impl Abort + Host), link: &mut UdpLink<HostRuntime>) {
     let mut buffer = [0; MAX_PACKET];
     put(rt, b"abc", "127.0.0.1:4025");
-    expect!(*rt; link.try_recv(&mut buffer) == Ok(Some(3)));
+    expect!(*rt; link.recv(Sleep::No, &mut buffer) == Ok(Some(3)));
     expect!(*rt; &buffer[..3] == b"abc".as_slice());
 }
 
@@ -169,16 +169,32 @@ fn expect_no_wait(rt: &(impl Abort + Host), link: &mut UdpLink<HostRuntime>) {
     let mut buffer = [0; MAX_PACKET];
     let before = now(rt);
     for _receive in 0..200 {
-        expect!(*rt; link.try_recv(&mut buffer) == Ok(None));
+        expect!(*rt; link.recv(Sleep::No, &mut buffer) == Ok(None));
     }
     expect!(*rt; now(rt).saturating_sub(before) < Duration::from_millis(1_000));
 }
 
-/// Checks that a link waits for at least 5 ms, if nothing arrives.
+/// A wait of this many milliseconds from now on.
+fn sleep_for(rt: &(impl Abort + Host), millis: u64) -> Sleep {
+    Sleep::Until(moment_of(Some(now(rt).saturating_add(Duration::from_millis(millis)))))
+}
+
+/// Checks that a link waits until a moment, if nothing arrives, and not much longer.
 fn expect_wait(rt: &(impl Abort + Host), link: &mut UdpLink<HostRuntime>) {
     let before = now(rt);
-    expect!(*rt; link.recv(&mut [0; MAX_PACKET]) == Ok(None));
-    expect!(*rt; now(rt).saturating_sub(before) >= Duration::from_millis(5));
+    expect!(*rt; link.recv(sleep_for(rt, 20), &mut [0; MAX_PACKET]) == Ok(None));
+    let waited = now(rt).saturating_sub(before);
+    expect!(*rt; waited >= Duration::from_millis(20));
+    expect!(*rt; waited < Duration::from_millis(1_000));
+}
+
+/// Checks that a link doesn't wait until a moment that is past.
+fn expect_past(rt: &(impl Abort + Host), link: &mut UdpLink<HostRuntime>) {
+    let before = now(rt);
+    for _receive in 0..200 {
+        expect!(*rt; link.recv(Sleep::Until(1), &mut [0; MAX_PACKET]) == Ok(None));
+    }
+    expect!(*rt; now(rt).saturating_sub(before) < Duration::from_millis(1_000));
 }
 
 /// Checks the receives of a link that wait, and those that don't.
@@ -186,6 +202,7 @@ fn expect_tries(rt: &(impl Abort + Host), link: &mut UdpLink<HostRuntime>) {
     expect_tried(rt, link);
     expect_no_wait(rt, link);
     expect_wait(rt, link);
+    expect_past(rt, link);
     expect!(*rt; link.failures() == 0);
 }
 
@@ -201,34 +218,28 @@ fn a_link_is_tried(rt: HostRuntime) {
     expect_tried_link(&rt, rt);
 }
 
-/// Checks that an empty packet ends a wait, and is dropped.
-fn expect_woken(rt: &(impl Abort + Host), link: &mut UdpLink<HostRuntime>, other: &UdpSocket) {
-    let sent = other.send_to(b"", "127.0.0.1:4027");
-    expect!(*rt; sent.is_ok());
-    expect!(*rt; link.recv(&mut [0; MAX_PACKET]) == Ok(None));
-}
-
-/// Checks that 200 empty packets end 200 waits, in less than a second.
-fn expect_waits_ended(rt: &(impl Abort + Host), link: &mut UdpLink<HostRuntime>) {
+/// Checks that a link returns a packet that comes after empty ones, and drops those.
+fn expect_dropped(rt: &(impl Abort + Host), link: &mut UdpLink<HostRuntime>) {
     let other = bound(rt, "127.0.0.1:0");
-    let before = now(rt);
     for _packet in 0..200 {
-        expect_woken(rt, link, &other);
+        expect!(*rt; other.send_to(b"", "127.0.0.1:4027").is_ok());
+        expect!(*rt; link.recv(sleep_for(rt, 1), &mut [0; MAX_PACKET]) == Ok(None));
     }
-    expect!(*rt; now(rt).saturating_sub(before) < Duration::from_millis(1_000));
+    expect!(*rt; other.send_to(b"abc", "127.0.0.1:4027").is_ok());
+    expect!(*rt; link.recv(Sleep::Woken, &mut [0; MAX_PACKET]) == Ok(Some(3)));
     expect!(*rt; link.failures() == 0);
 }
 
 /// The same for a new link.
-fn expect_woken_link(rt: &(impl Abort + Host), clock: HostRuntime) {
+fn expect_dropping_link(rt: &(impl Abort + Host), clock: HostRuntime) {
     let mut link = link_of(rt, clock, "127.0.0.1:4027", "127.0.0.1:4028");
-    expect_waits_ended(rt, &mut link);
+    expect_dropped(rt, &mut link);
 }
 
-/// An empty packet ends a wait and is dropped: 200 waits take two seconds.
+/// An empty packet is dropped, and is no fault.
 #[test]
-fn an_empty_packet_ends_a_wait(rt: HostRuntime) {
-    expect_woken_link(&rt, rt);
+fn an_empty_packet_is_dropped(rt: HostRuntime) {
+    expect_dropping_link(&rt, rt);
 }
 
 /// Checks that a link's receive buffer becomes as large as it is asked for, and never smaller.

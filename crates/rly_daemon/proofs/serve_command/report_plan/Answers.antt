@@ -8,7 +8,7 @@ pub returns-in-Ok : goal.returns-in-Ok
 returns-in-Ok g c =
     let relay = c.in-Ok in
     record {
-      served = then_both {Z = HasServedReporting c.args.turns (g.W.Write.contents c.args.writer.now) (g.W.Write.contents c.serve_reporting.new.writer) (g.E.Write.contents c.reports_ended.new.errors)} c.reports_ended.result c.reports_ended.ensures.told c.reports_ended.ensures.end (λ told end. record {
+      served = then_both {Z = HasServedReporting c.args.settings.turns (g.W.Write.contents c.args.writer.now) (g.W.Write.contents c.serve_reporting.new.writer) (g.E.Write.contents c.reports_ended.new.errors)} c.reports_ended.result c.reports_ended.ensures.told c.reports_ended.ensures.end (λ told end. record {
         plan = c.args.plan.now;
         left = relay.reported.relayed.finished.last.value;
         served = record {

@@ -9,7 +9,7 @@ pub returns-in-Ok : goal.returns-in-Ok
 returns-in-Ok g c =
     let relay = c.in-Ok in
     record {
-      served = then_ok {X = Appends (g.E.Write.contents c.serve.new.errors) (g.E.Write.contents c.report_end.new.errors) (ended_line c.args.turns)} {Y = HasServed c.args.turns (g.E.Write.contents c.report_end.new.errors)} c.report_end.result c.report_end.ensures (λ told. (
+      served = then_ok {X = Appends (g.E.Write.contents c.serve.new.errors) (g.E.Write.contents c.report_end.new.errors) (ended_line c.args.settings.turns)} {Y = HasServed c.args.settings.turns (g.E.Write.contents c.report_end.new.errors)} c.report_end.result c.report_end.ensures (λ told. (
         c.args.plan.now,
         relay._relayed.finished.last.value,
         record {

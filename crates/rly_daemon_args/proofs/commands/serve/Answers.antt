@@ -5,4 +5,5 @@ pub returns : goal.returns
 unfolding serve_app
 returns c =
     let files = c.with_path-with_plan.ensures _ (c.with_path-with_file.ensures _ c.command_with_help-bare.ensures) in
-    c.with_option.ensures _ (c.with_option-with_turns.ensures _ files)
+    let report = c.with_option-with_report.ensures _ (c.with_option-with_turns.ensures _ files) in
+    c.with_arg.ensures _ _ report c.gather.ensures.rule

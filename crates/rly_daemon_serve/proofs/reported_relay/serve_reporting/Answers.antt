@@ -15,22 +15,22 @@ use Rattle.rly_daemon_serve.proofs.reported_relay.serve_reporting.Goals as goal
 -- a plan has 1 to 64 peers and 1 to 64 hops
 pub run_tallied-requires-clause-count : goal.run_tallied-requires-clause-count
 run_tallied-requires-clause-count g c κs within =
-    posts_between (duty_over link_below) c.in-Ok.started.0.items c.args.plan.now c.args.keys (longest_message c.args.journal.state.params.payload) c.args.turns 255 c.requires.keys c.requires.sound c.in-Ok.ensures.posts below_255
+    posts_between (duty_over link_below) c.in-Ok.started.0.items c.args.plan.now c.args.keys (longest_message c.args.journal.state.params.payload) c.args.settings.turns 255 c.requires.keys c.requires.sound c.in-Ok.ensures.posts below_255
 
 pub returns-clause-room : goal.returns-clause-room
 returns-clause-room g c = on_ok c.run_tallied.result c.in-Ok.ensures.room
 
 pub returns-clause-ends : goal.returns-clause-ends
 returns-clause-ends g c = both_then c.run_tallied.result c.run_tallied.ensures.end c.run_tallied.ensures.complete (λ r end complete.
-    run_ends link_below 1 _ c.args.plan.now c.args.keys c.args.journal c.args.turns r.relayed c.requires.sound.peer_count.0 refl
-    (has_run link_below _ (length (workers_of c.args.plan.now) + 1) c.args.plan.now c.args.keys c.args.journal c.args.turns c.in-Ok.started.0.items r.relayed c.requires.keys c.in-Ok.ensures.posts
-    (and_one _ _ (posts_are (duty_over link_below) c.in-Ok.started.0.items c.args.plan.now c.args.keys _ c.args.turns c.requires.keys c.in-Ok.ensures.posts)) end complete))
+    run_ends link_below 1 _ c.args.plan.now c.args.keys c.args.journal c.args.settings.turns r.relayed c.requires.sound.peer_count.0 refl
+    (has_run link_below _ (length (workers_of c.args.plan.now) + 1) c.args.plan.now c.args.keys c.args.journal c.args.settings.turns c.in-Ok.started.0.items r.relayed c.requires.keys c.in-Ok.ensures.posts
+    (and_one _ _ (posts_are (duty_over link_below) c.in-Ok.started.0.items c.args.plan.now c.args.keys _ c.args.settings.turns c.requires.keys c.in-Ok.ensures.posts)) end complete))
 
 -- as many seats as workers, and one more
 pub returns-clause-ran : goal.returns-clause-ran
 returns-clause-ran g c = both_then c.run_tallied.result c.run_tallied.ensures.end c.run_tallied.ensures.complete (λ r end complete.
-    has_run link_below _ (length (workers_of c.args.plan.now) + 1) c.args.plan.now c.args.keys c.args.journal c.args.turns c.in-Ok.started.0.items r.relayed c.requires.keys c.in-Ok.ensures.posts
-    (and_one _ _ (posts_are (duty_over link_below) c.in-Ok.started.0.items c.args.plan.now c.args.keys _ c.args.turns c.requires.keys c.in-Ok.ensures.posts)) end complete)
+    has_run link_below _ (length (workers_of c.args.plan.now) + 1) c.args.plan.now c.args.keys c.args.journal c.args.settings.turns c.in-Ok.started.0.items r.relayed c.requires.keys c.in-Ok.ensures.posts
+    (and_one _ _ (posts_are (duty_over link_below) c.in-Ok.started.0.items c.args.plan.now c.args.keys _ c.args.settings.turns c.requires.keys c.in-Ok.ensures.posts)) end complete)
 
 -- its schedule was new
 pub returns-clause-reported : goal.returns-clause-reported

@@ -11,7 +11,7 @@ use Rattle.rly_daemon_serve.proofs.served_relay.serve.Goals as goal
 -- a plan has 1 to 64 peers and 1 to 64 hops
 pub run_posts-requires-clause-count : goal.run_posts-requires-clause-count
 run_posts-requires-clause-count g c κs within =
-    posts_between duty_at c.in-Ok.posts.items c.args.plan.now c.args.keys (longest_message c.args.journal.state.params.payload) c.args.turns 256 c.requires.keys c.requires.sound c.in-Ok.ensures.posts below_256
+    posts_between duty_at c.in-Ok.ready.0.items c.args.plan.now c.args.keys (longest_message c.args.journal.state.params.payload) c.args.settings.turns 256 c.requires.keys c.requires.sound c.in-Ok.ensures.posts below_256
 
 -- a worker's link goes to its thread
 pub run_posts-requires-send-L : goal.run_posts-requires-send-L
@@ -23,12 +23,12 @@ returns-clause-room g c = on_ok c.run_posts.result c.in-Ok.ensures.room
 
 pub returns-clause-ends : goal.returns-clause-ends
 returns-clause-ends g c = both_then c.run_posts.result c.run_posts.ensures.end c.run_posts.ensures.complete (λ relayed end complete.
-    run_ends (λ l. l) 0 _ c.args.plan.now c.args.keys c.args.journal c.args.turns relayed c.requires.sound.peer_count.0 (and_none _)
-    (has_run (λ l. l) _ (length (workers_of c.args.plan.now)) c.args.plan.now c.args.keys c.args.journal c.args.turns c.in-Ok.posts.items relayed c.requires.keys c.in-Ok.ensures.posts
-    (posts_are duty_at c.in-Ok.posts.items c.args.plan.now c.args.keys _ c.args.turns c.requires.keys c.in-Ok.ensures.posts) end complete))
+    run_ends (λ l. l) 0 _ c.args.plan.now c.args.keys c.args.journal c.args.settings.turns relayed c.requires.sound.peer_count.0 (and_none _)
+    (has_run (λ l. l) _ (length (workers_of c.args.plan.now)) c.args.plan.now c.args.keys c.args.journal c.args.settings.turns c.in-Ok.ready.0.items relayed c.requires.keys c.in-Ok.ensures.posts
+    (posts_are duty_at c.in-Ok.ready.0.items c.args.plan.now c.args.keys _ c.args.settings.turns c.requires.keys c.in-Ok.ensures.posts) end complete))
 
 -- as many seats as workers
 pub returns-clause-ran : goal.returns-clause-ran
 returns-clause-ran g c = both_then c.run_posts.result c.run_posts.ensures.end c.run_posts.ensures.complete (λ relayed end complete.
-    has_run (λ l. l) _ (length (workers_of c.args.plan.now)) c.args.plan.now c.args.keys c.args.journal c.args.turns c.in-Ok.posts.items relayed c.requires.keys c.in-Ok.ensures.posts
-    (posts_are duty_at c.in-Ok.posts.items c.args.plan.now c.args.keys _ c.args.turns c.requires.keys c.in-Ok.ensures.posts) end complete)
+    has_run (λ l. l) _ (length (workers_of c.args.plan.now)) c.args.plan.now c.args.keys c.args.journal c.args.settings.turns c.in-Ok.ready.0.items relayed c.requires.keys c.in-Ok.ensures.posts
+    (posts_are duty_at c.in-Ok.ready.0.items c.args.plan.now c.args.keys _ c.args.settings.turns c.requires.keys c.in-Ok.ensures.posts) end complete)

@@ -22,7 +22,7 @@ serve_to_end-requires-clause-empty g c =
 pub serve_to_end-requires-clause-seats : goal.serve_to_end-requires-clause-seats
 serve_to_end-requires-clause-seats g c =
     let names : List (Option ReplyId) = names_of c.args.line_end.lines in
-    subst (λ (f : FlusherState g.row.D.Denot). AreSeatsOf f.line.of (names_of f.line.lines) c.start_all-threads.result.items) (sym c.in-Ok-new.ensures.begins)
+    subst (λ (f : FlusherState g.row.D.Denot). AreSeatsOf f.line.of (names_of f.line.lines) c.start_all-threads.result.items) (sym (c.with_gather-flusher.ensures ∙ c.in-Ok-new.ensures.begins))
     (are_seats _ _ _ c.args.line_end.of names c.args.posts.items c.args.seats.items c.start_all-threads.result.items c.start_all-threads.ensures c.requires.seats)
 
 pub serve_to_end-requires-clause-stop_flag : goal.serve_to_end-requires-clause-stop_flag
@@ -33,7 +33,7 @@ pub returns-clause-end : goal.returns-clause-end
 returns-clause-end g c =
     let end = c.serve_to_end.ensures in
     let served : IsServed g.D.Disk.state (new_flusher c.args.journal c.args.line_end) c.serve_to_end.result.finished.last.value =
-    subst (λ f. IsServed g.D.Disk.state f c.serve_to_end.result.finished.last.value) c.in-Ok-new.ensures.begins end.served in
+    subst (λ f. IsServed g.D.Disk.state f c.serve_to_end.result.finished.last.value) (c.with_gather-flusher.ensures ∙ c.in-Ok-new.ensures.begins) end.served in
     record {
       broken = end.broken;
       broke = λ yes.

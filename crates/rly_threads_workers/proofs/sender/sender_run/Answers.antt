@@ -1,4 +1,4 @@
-use Rattle.std.proofs.Common.{◌≡◌, ◌∙◌, ◌∷◌, [], ap, refl, subst, sym}
+use Rattle.std.proofs.Common.{◌≡◌, ◌∙◌, ◌∷◌, [], ap, refl, subst, sym, true}
 use Rattle.std.specs.Prelude.{Some, option_copied}
 use Rattle.rly_hop.specs.Sending.{sender}
 use Rattle.rly_plan.specs.ContactPlan.{next_hop_at, rate, resend}
@@ -10,7 +10,7 @@ use Rattle.rly_threads_workers.specs.SenderTurns.{SenderWorker, sender_worker, s
 use Rattle.rly_threads_workers.specs.HelpersTurns.{Did}
 use Rattle.rly_threads_workers.specs.SenderState.{first_sender_state}
 use Rattle.rly_threads_workers.specs.Runs.{Ran}
-use Rattle.rly_threads_workers.specs.Turns.{Given, done_in}
+use Rattle.rly_threads_workers.specs.Turns.{done_in}
 use Rattle.rly_threads_workers.proofs.Grown.{begun, did_end, did_start, gone_on, goes_on}
 use Rattle.rly_threads_workers.proofs.Senders.{has_sent}
 use Rattle.rly_threads_workers.proofs.sender.sender_run.Goals as goal
@@ -35,17 +35,18 @@ loop-turn-preserved g c =
     let p = was.pacing in
     let next = now.pacing in
     let same : sender_worker was.plan.now was.hop ≡ w = λ i. sender_worker (before.0 i).now (before.1 i) in
-    let given : Given = record done.0 { start = c.between-go.result } in
+    let given = done.0 in
     let did : Did c.between-go.new.self c.turn.new.ends next (sender_done w most p given) =
-    subst (λ m. Did c.between-go.new.self c.turn.new.ends next (sender_done w m p done.0)) before.3
-    (subst (λ (w : SenderWorker). Did c.between-go.new.self c.turn.new.ends next (sender_done w c.loop-turn.calls.most p done.0)) same done.1) in
-    let start = subst (λ (x : Go). TellsMore c.loop-turn.ends.handed c.between-go.new.self.handed ((Sender c.args.hop, Start, x) ∷ [])) (goes_on c.between-go.result c.if-not-go.false) c.between-go.ensures.told in (
+    subst (λ m. Did c.between-go.new.self c.turn.new.ends next (sender_done w m p given)) before.3
+    (subst (λ (w : SenderWorker). Did c.between-go.new.self c.turn.new.ends next (sender_done w c.loop-turn.calls.most p given)) same done.2) in
+    let start = subst (λ (x : Go). TellsMore c.loop-turn.ends.handed c.between-go.new.self.handed ((Sender c.args.hop, Start, x) ∷ []))
+    (goes_on c.between-go.result c.if-not-go.false ∙ (λ i. record (sym done.1 i) { on = true })) c.between-go.ensures.told in (
       c.turn.ensures.plan ∙ before.0,
       c.turn.ensures.hop ∙ before.1,
       c.turn.ensures.idle,
       c.turn.ensures.most ∙ before.3,
       gone_on (sender_turn w most) c.new-pacing.result p next c.args.ends.now c.loop-turn.ends c.turn.new.ends given before.4
-          (did_start c.loop-turn.ends c.between-go.new.self c.turn.new.ends next _ (Sender c.args.hop) c.between-go.result start c.between-go.ensures.same did),
+          (did_start c.loop-turn.ends c.between-go.new.self c.turn.new.ends next _ (Sender c.args.hop) given.start start c.between-go.ensures.same did),
     )
 
 pub returns-then-not-go : goal.returns-then-not-go

@@ -1,5 +1,4 @@
-use Rattle.std.proofs.Common.{◌∙◌, ◌∷◌, [], ap, arith, length, refl, subst, sym, take}
-use Rattle.std.specs.Prelude.{◌==◌}
+use Rattle.std.proofs.Common.{◌∙◌, ◌∷◌, [], ap, arith, length, subst, sym, take}
 use Rattle.std.specs.Option.{option_map}
 use Rattle.rly_hop.specs.Payloads.{message_bytes}
 use Rattle.rly_hop.specs.Receiving.{receiver}
@@ -24,10 +23,10 @@ loop-place-init g c =
 
 pub returns-in_default-clause-gathered : goal.returns-in_default-clause-gathered
 returns-in_default-clause-gathered g c =
-    let heard = subst (λ f. TellsMore c.loop-place.ends.heard c.hear-found.new.self.heard (new_hearing (c.loop-place.place == 0) (packet_in f c.hear-found.new.buffer) ∷ [])) c.in_default.is c.hear-found.ensures.heard in
+    let heard = subst (λ f. TellsMore c.loop-place.ends.heard c.hear-found.new.self.heard (new_hearing c.sleep_at-sleep.result (packet_in f c.hear-found.new.buffer) ∷ [])) c.in_default.is c.hear-found.ensures.heard in
     gathering_quiet (receiver_worker c.args.self.now.plan.now c.args.self.now.peer) (receiver c.args.self.now.own c.args.self.now.station) c.args.ends.now c.loop-place.ends c.hear-found.new.self
-    c.args.takes.now c.loop-place.takes c.loop-place.place c.hear-found.result.1 (c.loop-place.place == 0) c.loop-place.invariant.gathered
-    c.loop-place-test.true refl heard c.hear-found.ensures.told c.hear-found.ensures.same
+    c.args.takes.now c.loop-place.takes c.loop-place.place c.hear-found.result.1 c.sleep_at-sleep.result c.loop-place.invariant.gathered
+    c.loop-place-test.true c.sleep_at-sleep.ensures heard c.hear-found.ensures.told c.hear-found.ensures.same
 
 pub loop-place-preserved : goal.loop-place-preserved
 loop-place-preserved g c =
@@ -37,13 +36,13 @@ loop-place-preserved g c =
     let more = c.hear.ensures.more in
     let now = c.hear-found.result.1.now in
     let a : Arrival = record { packet = take c.in-Some.count c.hear-found.new.buffer; heard = c.hear-found.result.1; refused = more.0 } in
-    let heard = subst (λ f. TellsMore c.loop-place.ends.heard c.hear-found.new.self.heard (new_hearing (c.loop-place.place == 0) (packet_in f c.hear-found.new.buffer) ∷ [])) c.in-Some.is c.hear-found.ensures.heard in
+    let heard = subst (λ f. TellsMore c.loop-place.ends.heard c.hear-found.new.self.heard (new_hearing c.sleep_at-sleep.result (packet_in f c.hear-found.new.buffer) ∷ [])) c.in-Some.is c.hear-found.ensures.heard in
     record {
       waiting = c.hear.ensures.waiting;
       fewer = fewer_after c.loop-place.takes c.hear.new.takes (wanted_by w c.loop-place.takes.most r now more.0 (option_map message_bytes c.message_in.result)) c.loop-place.place more.1
           (one_at_most w c.loop-place.takes.most r now more.0 (option_map message_bytes c.message_in.result)) before.fewer;
-      gathered = gathering_more w r c.args.ends.now c.loop-place.ends c.hear-found.new.self c.args.takes.now c.loop-place.takes c.hear.new.takes c.loop-place.place a (c.loop-place.place == 0)
-          before.gathered refl heard c.hear-found.ensures.told c.hear-found.ensures.same
+      gathered = gathering_more w r c.args.ends.now c.loop-place.ends c.hear-found.new.self c.args.takes.now c.loop-place.takes c.hear.new.takes c.loop-place.place a c.sleep_at-sleep.result
+          before.gathered c.sleep_at-sleep.ensures heard c.hear-found.ensures.told c.hear-found.ensures.same
           (subst (HasMore c.loop-place.takes c.hear.new.takes) (λ i. wanted_by w (before.gathered.more.most i) r now more.0 (c.message_in.ensures i)) more.1);
     }
 

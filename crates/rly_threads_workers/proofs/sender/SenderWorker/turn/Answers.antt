@@ -1,66 +1,51 @@
-use Rattle.std.proofs.Common.{◌≡◌, ◌∙◌, ◌≤◌, ◌∷◌, [], ap, false, length, subst, sym}
-use Rattle.std.specs.Prelude.{nat_lt}
-use Rattle.std.specs.Option.{option_map}
-use Rattle.rly_hop.specs.Payloads.{out_action_bytes}
-use Rattle.rly_hop.specs.declared.sending.event.OutEvent.TheVariants.{Turn}
-use Rattle.rly_hop.specs.Sending.{sending_step}
-use Rattle.rly_hop_pacing.specs.CongestionControl.{repeats}
+use Rattle.std.proofs.Common.{◌∷◌, [], length, subst}
 use Rattle.rly_plan.specs.ContactPlan.{is_open}
 use Rattle.rly_link.specs.LinkHistory.{TellsMore}
-use Rattle.rly_threads_workers.specs.SenderTurns.{SenderWorker, repeat_count, sender_worker, sender_on_action}
-use Rattle.rly_threads_workers.specs.declared.sender_state.SenderState.{SenderState}
-use Rattle.rly_threads_workers.specs.declared.sender.SenderWorker.{SenderWorker as Worker}
-use Rattle.rly_link.specs.declared.turn.Point.TheVariants.{Heard}
+use Rattle.rly_link.specs.declared.turn.Point.TheVariants.{Answered, Call}
 use Rattle.rly_link.specs.declared.turn.Worker.TheVariants.{Sender}
-use Rattle.rly_threads_workers.specs.HelpersTurns.{Did}
-use Rattle.rly_threads_workers.specs.Turns.{Given}
-use Rattle.rly_threads_workers.proofs.Grown.{nowhere}
-use Rattle.rly_threads_workers.proofs.Senders.{again_few, missing_few, turned}
+use Rattle.rly_threads_workers.specs.HelpersTurns.{HasHandedEvent, asks_in, outcome_events}
+use Rattle.rly_threads_workers.specs.SenderTurns.{sender_worker}
+use Rattle.rly_threads_workers.specs.declared.sender.SenderWorker.{SenderWorker as Worker}
+use Rattle.rly_threads_workers.proofs.Grown.{none_if, some_if}
+use Rattle.rly_threads_workers.proofs.Senders.{answers_fit, none_of, turned_asked, turned_none}
 use Rattle.rly_threads_workers.proofs.sender.SenderWorker.turn.Goals as goal
+
+pub returns-then-not-request-clause-idle : goal.returns-then-not-request-clause-idle
+returns-then-not-request-clause-idle g c =
+    let listed = c.request.ensures.requested.2.calls in
+    let asks = asks_in c.request.new.calls in
+    let none = none_if c.request.result (length asks) c.request.ensures.some c.if-not-request.true in
+    record { room = listed.room; asks = none_of asks none; answers = listed.answers }
+
+pub returns-then-not-request-clause-done : goal.returns-then-not-request-clause-done
+returns-then-not-request-clause-done g c =
+    let was = c.args.self.now in
+    let requested = c.request.ensures.requested in
+    let none = none_if c.request.result (length (asks_in c.request.new.calls)) c.request.ensures.some c.if-not-request.true in
+    turned_none (sender_worker was.plan.now was.hop) c.args.calls.now.most c.args.ends.now c.request.new.ends was.pacing c.request.new.self.pacing c.request.new.calls c.args.start
+    requested.0 requested.1 requested.2 none
+
+pub answer-requires-clause-numbers : goal.answer-requires-clause-numbers
+answer-requires-clause-numbers g c =
+    let listed = c.request.ensures.requested.2.calls in
+    let submitted = c.submit-outcome.ensures in
+    answers_fit c.request.new.calls c.submit-outcome.new.self c.submit-outcome.result.0 submitted.same listed.numbers submitted.each submitted.none_given
 
 pub returns-clause-done : goal.returns-clause-done
 returns-clause-done g c =
-    let acted = c.act.ensures.done in
-    let hears = c.gather.ensures.heard in
     let was = c.args.self.now in
-    let heard = c.gather.new.self in
-    let ready = c.moment.new.self in
-    let now = c.act.new.self in
-    let go = c.between-go.result in
-    let w = sender_worker was.plan.now was.hop in
-    let same : sender_worker heard.plan.now heard.hop ≡ w = ap (λ (o : Worker). sender_worker o.plan.now o.hop) c.gather.ensures.same in
-    let most = c.args.calls.now.most in
-    let room = c.room-room.result in
-    let missing = c.missing.new.numbers.items in
-    let again = c.add_spare.new.again.items in
-    let action = option_map out_action_bytes c.step-action.result in
-    let open_then = nat_lt c.len.result room in
-    let acting : SenderState = record ready { core = c.step-action.new.self; moved = false } in
-    let did : Did c.between-go.new.self c.act.new.ends now.pacing (sender_on_action w most room go.now acted.0 acting again action) =
-    subst (λ (o : SenderWorker). Did c.between-go.new.self c.act.new.ends now.pacing (sender_on_action o most room go.now acted.0 acting again action)) same acted.1 in
-    let given : Given = record { start = nowhere; packets = hears.0; heard = go; made = acted.0 } in
-    let moment : TellsMore c.gather.new.ends.handed c.between-go.new.self.handed ((Sender was.hop, Heard, go) ∷ []) =
-    subst (λ (o : Worker). TellsMore c.gather.new.ends.handed c.between-go.new.self.handed ((Sender o.hop, Heard, go) ∷ [])) c.gather.ensures.same c.between-go.ensures.told in (
-      given,
-      turned w most room c.args.ends.now c.gather.new.ends c.between-go.new.self c.act.new.ends
-          was.pacing heard.pacing ready acting now.pacing given c.is_open.result missing again action
-          hears.1 moment c.between-go.ensures.same
-          (c.is_open.ensures ∙ ap (λ (o : SenderWorker). is_open o.plan o.hop go.now) same)
-          c.moment.ensures c.room-room.ensures
-          (c.missing.ensures ∙ ap (λ n. repeats ready.pace n go.since) c.repeat_count-count.ensures)
-          c.add_spare.ensures
-          (λ i. record ready { core = (c.step-action.ensures.state ∙ ap (λ n. (sending_step ready.core (Turn (nat_lt n room))).0) c.len.ensures.value) i; moved = false })
-          (c.step-action.ensures.action ∙ ap (λ n. (sending_step ready.core (Turn (nat_lt n room))).1) c.len.ensures.value)
-          did,
-    )
-
-pub act-requires-clause-again : goal.act-requires-clause-again
-act-requires-clause-again g c =
-    let most = c.args.calls.now.most in
-    let room = c.room-room.result in
-    let pace = c.moment.new.self.pace in
-    let at = c.between-go.result.since in
-    let missing = c.missing.new.numbers.items in
-    let few : length missing ≤ repeat_count most room =
-    missing_few pace (repeat_count most room) at missing (c.missing.ensures ∙ ap (λ n. repeats pace n at) c.repeat_count-count.ensures) in
-    subst (λ l. length l ≤ repeat_count most room) (sym c.add_spare.ensures) (again_few pace most room at missing few)
+    let now = c.request.new.self in
+    let requested = c.request.ensures.requested in
+    let same = c.request.ensures.same in
+    let submitted = c.submit-outcome.ensures in
+    let after = c.submit-outcome.result.1 in
+    let mid = c.request.new.ends in
+    let called = c.submit-outcome.new.ends in
+    let events = outcome_events c.submit-outcome.new.self c.submit-outcome.result.0 in
+    let some = some_if c.request.result (length (asks_in c.request.new.calls)) c.request.ensures.some c.if-not-request.false in
+    turned_asked (sender_worker was.plan.now was.hop) c.args.calls.now.most c.args.ends.now mid called c.answer.new.ends was.pacing now.pacing c.answer.new.self.pacing
+    c.request.new.calls c.submit-outcome.new.self c.args.start requested.0 requested.1 c.submit-outcome.result.0 submitted.told.0 after
+    requested.2 some submitted.asked
+    (subst (λ (o : Worker). TellsMore mid.handed called.handed ((Sender o.hop, Call, submitted.told.0) ∷ (Sender o.hop, Answered, after) ∷ [])) same submitted.told.1)
+    submitted.ends submitted.same submitted.each
+    (subst (λ (o : Worker). HasHandedEvent (is_open o.plan.now o.hop after.now) after.since called c.answer.new.ends now.pacing c.answer.new.self.pacing events) same c.answer.ensures.told)

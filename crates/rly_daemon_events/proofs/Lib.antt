@@ -1,0 +1,5 @@
+mod Least
+mod LineLaws
+mod Runs
+mod Waits
+mod Written

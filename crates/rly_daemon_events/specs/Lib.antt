@@ -1,0 +1,3 @@
+pub mod HopEvents
+pub mod HopRuns
+pub mod Rests
