@@ -302,6 +302,17 @@ class Addresses(Sleeping):
             self.skipTest(f"no address may be added: {added.stderr.strip()}")
         self.addCleanup(self.ip, "del")
 
+    def expect_back(self, seconds):
+        """The address is away for so long, in which a datagram is taken. It goes out soon after that, though Timeouts passed."""
+        self.ip("del")
+        self.give()
+        time.sleep(seconds)
+        self.assertTrue(self.silent(self.hops[0], 0))
+        self.ip("add")
+        self.assertIsNotNone(self.heard(self.hops[0], DATA, self.number, 2.0))
+        self.hops[0].sendto(custody(self.number), (self.address, self.hop_ports[0]))
+        time.sleep(0.3)
+
     def test_a_datagram_goes_out_once_the_address_is_back(self):
         self.neighbours(1, [(0, END / 1e6)], listen=self.address)
         self.serve()
@@ -309,11 +320,20 @@ class Addresses(Sleeping):
         self.assertIsNotNone(self.heard(self.hops[0], DATA, 1))
         self.hops[0].sendto(custody(1), (self.address, self.hop_ports[0]))
         time.sleep(0.3)
+        for seconds in 1.0, 12.0:
+            with self.subTest(seconds):
+                self.expect_back(seconds)
+
+    def test_nothing_goes_out_after_the_contact(self):
+        """The contact ends while the address is away."""
+        end = time.time() + 3.0
+        self.neighbours(1, [(0, end)], listen=self.address)
+        self.serve()
         self.ip("del")
         self.give()
-        time.sleep(1.0)
+        time.sleep(end + 0.5 - time.time())
         self.ip("add")
-        self.assertIsNotNone(self.heard(self.hops[0], DATA, 2, LATEST))
+        self.assertTrue(self.silent(self.hops[0], 2.5))
 
 
 class Turns(Sleeping):

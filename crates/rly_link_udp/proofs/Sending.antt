@@ -26,6 +26,7 @@ use Rattle.rly_station.specs.contracts.failed_calls.FailedCalls as FailedCalls
 use Rattle.rly_link_udp.specs.contracts.neighbour_link.NeighbourLink as NeighbourLink
 use Rattle.rly_link_udp.specs.contracts.udp_link.UdpLink as UdpLink
 use Rattle.rly_link_udp.specs.contracts.udp_link.UdpLinkLink.TheImpl as Impl
+use Rattle.rly_link_udp.specs.contracts.unsent.Unsent as Unsent
 use Rattle.rly_link_udp.specs.contracts.wrong_tags.WrongTags as WrongTags
 
 sends_send : IsSend FailedCalls.the_field.row
@@ -34,11 +35,14 @@ sends_send = search (sendable, crosses, the_send) depth 30
 tags_send : IsSend WrongTags.the_field.row
 tags_send = search (sendable, crosses, the_send) depth 30
 
+unsent_send : IsSend Unsent.the_field.row
+unsent_send = search (sendable, crosses, the_send) depth 30
+
 udp_send : (C : RattleType) → IsSend C → IsSend (UdpLink.the_row C)
 udp_send C c =
     let udp : Declared = UdpLink.the_type C in
     let fields : AllSend (rows udp.parts) =
-    (search (sendable, crosses) depth 20, (search (sendable, crosses) depth 20, (search (sendable, c) depth 20, (search sendable depth 20, (search (sendable, crosses) depth 20, (search sendable depth 20, (search (sendable, crosses, sends_send) depth 20, (search (sendable, crosses) depth 60, (search (sendable, crosses) depth 20, (search (sendable, crosses) depth 20, tt)))))))))) in
+    (search (sendable, crosses) depth 20, (search (sendable, crosses) depth 20, (search (sendable, c) depth 20, (search sendable depth 20, (search (sendable, crosses) depth 20, (search sendable depth 20, (search (sendable, crosses, sends_send) depth 20, (search (sendable, crosses) depth 60, (search (sendable, crosses) depth 20, (search (sendable, crosses, unsent_send) depth 20, (search (sendable, crosses) depth 20, tt))))))))))) in
     recorded_send (Struct (shape udp)) udp.D udp.to udp.to_one (struct_send (shape udp) fields)
 
 key_send : IsSend Key.the_row

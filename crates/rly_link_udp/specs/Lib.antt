@@ -5,3 +5,4 @@ pub mod WrongTags
 pub mod Neighbour
 pub mod LinkReorder
 pub mod Duties
+pub mod Unsent

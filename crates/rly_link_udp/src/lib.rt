@@ -18,6 +18,7 @@ mod receive_buffer;
 mod sender_waker;
 mod signals;
 mod udp_link;
+mod unsent;
 mod wall_clock;
 mod wrong_tags;
 

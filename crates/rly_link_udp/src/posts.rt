@@ -14,8 +14,10 @@ use crate::neighbour_link::NeighbourLink;
 use crate::sender_waker::SenderWaker;
 use crate::signals::Signals;
 use crate::udp_link::UdpLink;
+use crate::unsent::Unsent;
 use crate::wall_clock::WallClock;
 use rly_link::{Post, Worker};
+use rly_link_auth::TAG_BYTES;
 use rly_plan::{Addresses, Plan};
 use rly_station::{
     AddressFault, End, EndFault, ErrorLines, FailedCalls, KeyedWorker, Logger, PlanKeys,
@@ -90,7 +92,8 @@ fn post_of<'a, H: AllocGlobal + Net + Clock>(
     };
     let turn = turn_of(rt, worker, turns, signals)?;
     let teller = signals.logger()?;
-    let socket = socket_of(rt, rt.alloc(), worker, addresses, turns, signals)?;
+    let unsent = unsent_of(rt.alloc(), worker, longest)?;
+    let socket = socket_of(rt, rt.alloc(), worker, addresses, turns, signals)?.with_unsent(unsent);
     let buffer = buffer_of(worker, &socket, longest);
     let keeping = LinkReorder::new(rt.alloc(), plan, worker, longest)?;
     let key = key.map(|key| key.into_key());
@@ -130,6 +133,18 @@ fn socket_of<'a, H: Net + Clock>(
             )
         }
         Err(fault) => Err(fault_of_link(alloc, worker, addresses, fault)),
+    }
+}
+
+/// The memory for the unsent packet of a hop's link, of at most `longest` bytes and a tag. A peer's link has none: its
+/// neighbour sends a Data again that wasn't answered.
+fn unsent_of(alloc: Global, worker: Worker, longest: usize) -> Result<Option<Unsent>, AllocError> {
+    match worker {
+        Worker::Receiver(_) => Ok(None),
+        Worker::Sender(_) => {
+            let unsent = Unsent::reserve(alloc, longest.saturating_add(TAG_BYTES))?;
+            Ok(Some(unsent))
+        }
     }
 }
 

@@ -3,6 +3,7 @@ ghost use Rattle.rly_link.specs.LinkHistory.{FailuresRose};
 
 use crate::bells::{Bell, Bells};
 use crate::receive_buffer::grow_buffer;
+use crate::unsent::Unsent;
 use libc::net::{POLLIN, POLLOUT, poll};
 use libc::types::pollfd;
 use rly_link::{Link, LinkFault, Sleep, Worker};
@@ -24,6 +25,9 @@ const PAUSE: u64 = 10;
 const LONGEST_SEND: i32 = 1_000;
 
 const MOST_MILLIS: u64 = i32::MAX as u64;
+
+/// The pause before a packet that the system refused is sent again, in milliseconds.
+const RESEND: i32 = 1_000;
 
 /// After a packet, a receive pauses so that more can arrive: for this part of the time since the last wait, but at
 /// most the maximum, and not at all below the minimum. Both in microseconds.
@@ -54,6 +58,8 @@ pub struct UdpLink<C: Clock + Drop> {
     bells: Option<(Arc<Bells, Global>, Worker)>,
     /// The longest wait of a receive, in microseconds, if it has one.
     longest: Option<u64>,
+    /// The packet that it sends again while it waits, if it does so.
+    unsent: Option<Unsent>,
     addresses: Snapshot<Addresses>,
 }
 
@@ -76,6 +82,7 @@ impl<C: Clock + Drop> UdpLink<C> {
             failed_sends: None,
             bells: None,
             longest: None,
+            unsent: None,
             addresses: Snapshot::of(addresses),
         })
     }
@@ -96,6 +103,15 @@ impl<C: Clock + Drop> UdpLink<C> {
         self
     }
 
+    /// The same, which sends a packet again that the system refused, as it does if the address of `listen` was taken away:
+    /// each second of its next wait, until the system sends it.
+    pub(crate) fn with_unsent(mut self, unsent: Option<Unsent>) -> UdpLink<C>
+        ensures { result ≡ record self { unsent = unsent } }
+    {
+        self.unsent = unsent;
+        self
+    }
+
     /// Requests a receive buffer of `wanted` bytes, if it is smaller. Returns its bytes then, if the system says how
     /// many: fewer if the system has a limit.
     pub fn grow_buffer(&self, wanted: u32) -> Option<u32> {
@@ -113,7 +129,7 @@ impl<C: Clock + Drop> UdpLink<C> {
     /// Receives once. If no packet is there, waits at most this long for one, unless it was woken since its last wait.
     fn receive_waiting(&mut self, sleep: Sleep, buffer: &mut [u8]) -> io::Result<Option<usize>>
         ensures bound { IfOk result (λ found. IfSome found (λ count. count ≤ length buffer.new)) }
-        ensures same { self.new ≡ self.old }
+        ensures same { self.new ≡ record self.old { unsent = self.new.unsent } }
         ensures spent { self.old.failures ≡ 2 ^ 64 - 1 → IsErr result }
     {
         let found = self.receive(buffer)?;
@@ -124,20 +140,77 @@ impl<C: Clock + Drop> UdpLink<C> {
         self.receive(buffer)
     }
 
-    /// Waits at most this long for a packet or a wake-up.
-    fn wait(&self, sleep: Sleep) {
-        let timeout = self.timeout_of(sleep);
-        match self.bell() {
-            Some(bell) => {
-                if bell.begin_wait() {
-                    wait_for_any(
-                        &mut [readable(self.socket.as_raw_fd()), readable(bell.fd())],
-                        timeout,
-                    );
+    /// Waits at most this long for a packet or a wake-up. Sends the unsent packet again each second.
+    fn wait(&mut self, sleep: Sleep)
+        ensures { self.new ≡ record self.old { unsent = self.new.unsent } }
+    {
+        let mut unsent = self.unsent.take();
+        if self.may_wait() {
+            for _second in 0..u64::MAX {
+                if self.has_waited(sleep, &unsent) {
+                    break;
                 }
-                bell.end_wait();
+                self.send_again(&mut unsent);
             }
-            None => wait_for_any(&mut [readable(self.socket.as_raw_fd())], timeout),
+        }
+        self.end_wait();
+        self.unsent = unsent;
+    }
+
+    /// Whether its worker may wait: not if it was woken.
+    fn may_wait(&self) -> bool {
+        match self.bell() {
+            Some(bell) => bell.begin_wait(),
+            None => true,
+        }
+    }
+
+    /// Its worker no longer waits.
+    fn end_wait(&self) {
+        if let Some(bell) = self.bell() {
+            bell.end_wait();
+        }
+    }
+
+    /// Waits at most this long for a packet or a wake-up, but at most a second if a packet is unsent. Returns whether the
+    /// wait is over.
+    fn has_waited(&self, sleep: Sleep, unsent: &Option<Unsent>) -> bool {
+        let timeout = self.timeout_of(sleep);
+        let is_longer = !(0..=RESEND).contains(&timeout);
+        if is_longer && packet_of(unsent).is_some() {
+            return self.wait_for_one(RESEND) != 0;
+        }
+        self.wait_for_one(timeout);
+        true
+    }
+
+    /// Sends the unsent packet again, if there is one, and drops it once it was sent.
+    fn send_again(&self, unsent: &mut Option<Unsent>) {
+        let sent = match packet_of(unsent) {
+            Some(packet) => self.socket.send_to(packet, self.remote).is_ok(),
+            None => false,
+        };
+        if sent {
+            drop_packet(unsent);
+        }
+    }
+
+    /// Waits for a packet or a wake-up, for at most this many milliseconds, or without an end if -1. Returns 0 if neither
+    /// came.
+    fn wait_for_one(&self, timeout: i32) -> i32 {
+        let socket = readable(self.socket.as_raw_fd());
+        match self.bell() {
+            Some(bell) => poll(&mut [socket, readable(bell.fd())], timeout),
+            None => poll(&mut [socket], timeout),
+        }
+    }
+
+    /// Keeps a packet that the system refused, unless one is kept.
+    fn keep_unsent(&mut self, packet: &[u8])
+        ensures { self.new ≡ record self.old { unsent = self.new.unsent } }
+    {
+        if let Some(unsent) = &mut self.unsent {
+            unsent.keep(packet);
         }
     }
 
@@ -230,7 +303,7 @@ impl<C: Clock + Drop> UdpLink<C> {
     fn send_waiting(&self, packet: &[u8]) -> io::Result<usize> {
         match self.socket.send_to(packet, self.remote) {
             Err(error) if error.kind() == ErrorKind::WouldBlock => {
-                wait_for_any(&mut [writable(self.socket.as_raw_fd())], LONGEST_SEND);
+                let _ready = poll(&mut [writable(self.socket.as_raw_fd())], LONGEST_SEND);
                 self.socket.send_to(packet, self.remote)
             }
             outcome => outcome,
@@ -271,6 +344,8 @@ impl<C: Clock + Drop> Link for UdpLink<C> {
             true => self.receive_waiting(sleep, buffer),
             false => self.receive(buffer),
         };
+        // The contact may end before the next wait.
+        drop_packet(&mut self.unsent);
         match outcome {
             Ok(Some(count)) => {
                 self.note_given(waits, began);
@@ -302,6 +377,7 @@ impl<C: Clock + Drop> Link for UdpLink<C> {
         match self.send_waiting(packet) {
             Ok(_) => Ok(()),
             Err(error) => {
+                self.keep_unsent(packet);
                 if let Some(failed_sends) = &mut self.failed_sends {
                     failed_sends.add(error);
                 }
@@ -345,6 +421,18 @@ fn first_address<N: Net>(net: &N, text: &str) -> io::Result<SocketAddr> {
     }
 }
 
+/// The unsent packet of a link, if there is one.
+fn packet_of(unsent: &Option<Unsent>) -> Option<&[u8]> {
+    unsent.as_ref()?.packet()
+}
+
+/// Drops the unsent packet of a link, if there is one.
+fn drop_packet(unsent: &mut Option<Unsent>) {
+    if let Some(unsent) = unsent {
+        unsent.clear();
+    }
+}
+
 /// A descriptor that is waited for until it can be read.
 fn readable(fd: i32) -> pollfd {
     pollfd {
@@ -361,11 +449,6 @@ fn writable(fd: i32) -> pollfd {
         events: POLLOUT,
         revents: 0,
     }
-}
-
-/// Waits until one of these is ready or a signal comes, for at most this many milliseconds, or without an end if -1.
-fn wait_for_any(descriptors: &mut [pollfd], timeout: i32) {
-    let _ready = poll(descriptors, timeout);
 }
 
 /// Whether a receive ended without a packet and without a fault: none had arrived, or a signal interrupted it.
