@@ -150,7 +150,7 @@ fn play_all(rt: &impl Abort, alloc: Global, rows: &[Row]) {
     for row in rows {
         play(rt, &plan, &mut lines, &mut output, row);
     }
-    expect!(rt; output.flushed == u64::MAX - output.room);
+    expect!(rt; output.flushed == u64::MAX.saturating_sub(output.room));
 }
 
 #[test]
