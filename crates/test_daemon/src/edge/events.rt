@@ -129,7 +129,10 @@ fn play(rt: &impl Abort, plan: &Plan, lines: &mut HopLines, output: &mut Lines, 
         && output.text.as_slice() == told.as_bytes();
     assert!(rt; is_told, "the lines at {millis} ms");
     let waits = lines.wait(plan, now, resting);
-    assert!(rt; waits == wait.saturating_mul(1_000), "the wait at {millis} ms");
+    assert!(rt;
+        waits == wait.saturating_mul(1_000),
+        "the wait at {millis} ms"
+    );
 }
 
 /// The plan of the four hops.

@@ -28,7 +28,9 @@ const FIRST: Worker = Worker::Sender(HopId(1));
 const SECOND: Worker = Worker::Sender(HopId(2));
 
 /// A worker, how long its link waits or `None` if it sends, and whether each sender rests then.
-const ACTS: [(Worker, Option<Sleep>, [bool; 2]); 13] = [
+type Act = (Worker, Option<Sleep>, [bool; 2]);
+
+const ACTS: [Act; 13] = [
     (FIRST, Some(Sleep::No), [false, false]),
     (FIRST, Some(Sleep::Until(0)), [false, false]),
     (PEER, Some(Sleep::Woken), [false, false]),
@@ -49,8 +51,8 @@ fn rests_of(rt: &impl Abort, alloc: Global) -> Arc<Rests, Global> {
     Arc::new(alloc, rests.expect(rt, "a counter")).expect(rt, "memory")
 }
 
-fn act(rt: &impl Abort, tally: &Tally, rests: &Rests, row: usize) {
-    let (worker, sleep, wanted) = ACTS[row];
+fn do_act(rt: &impl Abort, tally: &Tally, rests: &Rests, act: Act, row: usize) {
+    let (worker, sleep, wanted) = act;
     match sleep {
         Some(sleep) => tally.note_receive(worker, sleep),
         None => tally.note_send(worker),
@@ -69,14 +71,14 @@ fn a_sender_is_marked_by_its_waits(rt: HostRuntime) {
     let tally = Tally::new(rt.alloc(), &plan).expect(&rt, "memory");
     let tally = tally.with_rests(shared);
     for row in 0..ACTS.len() {
-        act(&rt, &tally, &rests, row);
+        do_act(&rt, &tally, &rests, ACTS[row], row);
     }
 }
 
 /// How many milliseconds a wait took, of at most this many.
 fn waited(rt: &(impl Abort + Clock), rests: &Rests, most: u64) -> u128 {
     let began = rt.monotonic().expect(rt, "a clock");
-    rests.wait(most * 1_000);
+    rests.wait(most.saturating_mul(1_000));
     let ended = rt.monotonic().expect(rt, "a clock");
     ended.saturating_sub(began).as_millis()
 }
