@@ -1,6 +1,6 @@
 -- The result of a run of the program, by its command line (docs/COMMANDS.md).
 use Rattle.std.specs.Prelude.{◌≡◌, ◌⊎◌, ℕ, ◌+◌, ◌≤◌, ◌==◌, MatchBool, List, [], ◌∷◌, ◌++◌, length, IfSome}
-use Rattle.std.specs.Prelude.{Option, false, codes}
+use Rattle.std.specs.Prelude.{Bool, Option, None, true, false, codes}
 use Rattle.std.specs.Fmt.{decimal}
 use Rattle.std.specs.Io.KnownBytes.{Appends}
 use Rattle.rly_core.specs.Limits.{IsWithinLimits}
@@ -67,9 +67,11 @@ pub record HasServedReporting (turns : ℕ) (old new told : Option (List ℕ)) :
   pub all : (end ≡ NoneDue) ⊎ (end ≡ Closed)
   pub reports : HasReports plan left.line old new seat end
 
--- as requested: without reports nothing was written
-abbrev pub HasServedWith : ℕ → ℕ → Option (List ℕ) → Option (List ℕ) → Option (List ℕ) → Type 0
-HasServedWith turns report old new told =
+-- As requested: without reports and events nothing was written. With events, which share the output with the reports, it
+-- isn't known what that holds.
+abbrev pub HasServedWith : ℕ → ℕ → Bool → Option (List ℕ) → Option (List ℕ) → Option (List ℕ) → Type 0
+HasServedWith turns report true old new told = HasServedReporting turns None None told
+HasServedWith turns report false old new told =
     MatchBool (report == 0) ((new ≡ old) × HasServed turns told) (HasServedReporting turns old new told)
 
 -- a command that succeeded: the reader before and after it, the bytes available to read, those of the writer before
@@ -84,8 +86,8 @@ IsDone (Play file batch) before behind left old new told_old told_new =
     HasPlayed batch left old new × (told_new ≡ told_old)
 IsDone (Audit file) before behind left old new told_old told_new =
     (behind ≡ before) × HasReport old new × (told_new ≡ told_old)
-IsDone (Serve file plan turns report gather) before behind left old new told_old told_new = (behind ≡ before)
-    × HasServedWith turns report old new told_new
+IsDone (Serve file plan turns report gather events) before behind left old new told_old told_new = (behind ≡ before)
+    × HasServedWith turns report events old new told_new
 IsDone Key before behind left old new told_old told_new =
     (behind ≡ before) × HasKey old new × (told_new ≡ told_old)
 IsDone (Plan plan at) before behind left old new told_old told_new =

@@ -118,12 +118,13 @@ fn obey<H: Host, R: Read, W: Write + Send, E: Write>(
             turns,
             report,
             gather,
+            events,
         } => {
             let settings = RelaySettings {
                 turns,
                 gather: Duration::from_millis(gather),
             };
-            run_serving(rt, file, plan, settings, report, writer, errors)
+            run_serving(rt, file, plan, settings, report, events, writer, errors)
         }
         Settings::Key => {
             write_key(rt, writer)?;

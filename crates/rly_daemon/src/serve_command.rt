@@ -1,6 +1,6 @@
-//! `rly serve`: the relay of a plan on the device in a file, with reports or without.
+//! `rly serve`: the relay of a plan on the device in a file, with reports and events or without.
 
-ghost use Rattle.std.specs.Prelude.{◌≡◌, ◌⊎◌, IfOk, OnOk, false};
+ghost use Rattle.std.specs.Prelude.{◌≡◌, ◌⊎◌, IfOk, None, OnOk, false};
 ghost use Rattle.std.specs.Io.KnownBytes.{Appends};
 ghost use Rattle.rly_plan.specs.Sound.{IsSoundPlan};
 ghost use Rattle.rly_station.specs.Warnings.{AreReadsLogged};
@@ -11,9 +11,10 @@ use crate::gate_tally::GateTally;
 use crate::program::Host;
 use rly_core::Refusal;
 use rly_daemon_commands::{CommandFault, FileDisk, open_journal, refusal_with_cause};
+use rly_daemon_events::{HopLines, Rests, SharedOutput};
 use rly_daemon_lines::TextFault;
 use rly_daemon_reporter::{ReporterEnd, Tally};
-use rly_daemon_serve::{RelaySettings, Reports, serve, serve_reporting};
+use rly_daemon_serve::{Events, RelaySettings, Reports, serve, serve_reporting, serve_with_events};
 use rly_disk::Disk;
 use rly_journal::Journal;
 use rly_plan::Plan;
@@ -24,22 +25,26 @@ use std::fs::{File, Files};
 use std::io::Write;
 use std::sync::{Arc, OnceLock};
 
-/// Runs the relay of a plan, with a report at once and every `report` seconds, or without reports if that is 0. The
-/// plan and its keys are read before the file is touched.
+/// Runs the relay of a plan, with a report at once and every `report` seconds, or without reports if that is 0, and
+/// with the events of its hops if they are asked for. The plan and its keys are read before the file is touched.
 pub(crate) fn run_serving<H: Host, W: Write + Send, E: Write>(
     rt: &H,
     file: &str,
     path: &str,
     settings: RelaySettings,
     seconds: u64,
+    events: bool,
     writer: &mut W,
     errors: &mut E,
 ) -> Result<(), CommandFault>
     ensures served { OnOk result
-        (HasServedWith settings.turns seconds (W.contents writer.old) (W.contents writer.new) (E.contents errors.new)) }
+        (HasServedWith settings.turns seconds events (W.contents writer.old) (W.contents writer.new)
+        (E.contents errors.new)) }
 {
     let plan = read_plan(rt, path)?;
-    if seconds == 0 {
+    if events {
+        watch_plan(rt, file, path, &plan, settings, seconds, writer, errors)
+    } else if seconds == 0 {
         serve_plan(rt, file, path, &plan, settings, errors)
     } else {
         report_plan(rt, file, path, &plan, settings, seconds, writer, errors)
@@ -84,7 +89,7 @@ fn report_plan<H: Host, W: Write + Send, E: Write>(
 {
     let keys = read_keys(rt, plan, path)?;
     let lines = shared_lines(rt.alloc())?;
-    let (journal, size, tally) = open_tallied(rt, file, plan, &lines)?;
+    let (journal, size, tally) = open_tallied(rt, file, plan, None, &lines)?;
     let stop_flag = OnceLock::new();
     let reports = Reports {
         seconds,
@@ -96,6 +101,73 @@ fn report_plan<H: Host, W: Write + Send, E: Write>(
     ) {
         Ok(reported) => reports_ended(settings.turns, reported.into_end(), errors),
         Err((fault, disk)) => Err(fault_of((fault, disk.into_inner()))),
+    }
+}
+
+/// The same, with the events of the hops, and a report at once and every `report` seconds unless that is 0.
+fn watch_plan<H: Host, W: Write + Send, E: Write>(
+    rt: &H,
+    file: &str,
+    path: &str,
+    plan: &Plan,
+    settings: RelaySettings,
+    seconds: u64,
+    writer: &mut W,
+    errors: &mut E,
+) -> Result<(), CommandFault>
+    requires { IsSoundPlan plan.now }
+    ensures served { OnOk result (HasServedReporting settings.turns None None (E.contents errors.new)) }
+{
+    let keys = read_keys(rt, plan, path)?;
+    let lines = shared_lines(rt.alloc())?;
+    let (rests, hop_lines) = watch_of(rt.alloc(), plan)?;
+    let (journal, size, tally) = open_tallied(rt, file, plan, Some(&rests), &lines)?;
+    let stop_flag = OnceLock::new();
+    let output = SharedOutput::new(writer);
+    let reports = Reports {
+        seconds,
+        tally,
+        stop_flag: &stop_flag,
+    };
+    let events = Events {
+        rests: &rests,
+        output: &output,
+        lines: hop_lines,
+    };
+    match serve_with_events(
+        rt, journal, plan, keys, settings, size, lines, reports, events, errors,
+    ) {
+        Ok(reported) => watch_ended(
+            settings.turns,
+            reported.into_end(),
+            output.has_failed(),
+            errors,
+        ),
+        Err((fault, disk)) => Err(fault_of((fault, disk.into_inner()))),
+    }
+}
+
+/// The marks of the senders that rest, and the lines of the hops, for a plan.
+fn watch_of(alloc: Global, plan: &Plan) -> Result<(Arc<Rests, Global>, HopLines), ServeFault>
+    requires { IsSoundPlan plan.now }
+{
+    match new_watch(alloc, plan) {
+        Ok((Some(rests), lines)) => Ok((rests, lines)),
+        Ok((None, _)) => Err(ServeFault::Worker),
+        Err(refused) => Err(refused.into()),
+    }
+}
+
+fn new_watch(
+    alloc: Global,
+    plan: &Plan,
+) -> Result<(Option<Arc<Rests, Global>>, HopLines), AllocError>
+    requires { IsSoundPlan plan.now }
+{
+    let lines = HopLines::new(alloc, plan)?;
+    match Rests::open(alloc, plan.hop_count())? {
+        Some(rests) => Ok((Some(Arc::new(alloc, rests)?), lines)),
+        None => Ok((None, lines)),
     }
 }
 
@@ -120,6 +192,24 @@ fn reports_ended<E: Write>(turns: u64, end: ReporterEnd, errors: &mut E) -> Resu
     }
 }
 
+/// The same of a relay with events, whose output may have failed.
+fn watch_ended<E: Write>(
+    turns: u64,
+    end: ReporterEnd,
+    has_failed: bool,
+    errors: &mut E,
+) -> Result<(), CommandFault>
+    ensures told { OnOk result (Appends (E.contents errors.old) (E.contents errors.new) (ended_line turns)) }
+    ensures end { OnOk result ((end ≡ ReporterEnd.NoneDue) ⊎ (end ≡ ReporterEnd.Closed)) }
+    ensures output { OnOk result (has_failed ≡ false) }
+{
+    reports_ended(turns, end, errors)?;
+    if has_failed {
+        return Err(CommandFault::Text(TextFault::Output));
+    }
+    Ok(())
+}
+
 /// The log on standard error that the workers and the device share.
 fn shared_lines(alloc: Global) -> Result<Arc<ErrorLines, Global>, ServeFault> {
     match ErrorLines::new_shared(alloc) {
@@ -128,16 +218,28 @@ fn shared_lines(alloc: Global) -> Result<Arc<ErrorLines, Global>, ServeFault> {
     }
 }
 
-/// The counters of a plan's workers.
-fn tally_of(alloc: Global, plan: &Plan) -> Result<Arc<Tally, Global>, ServeFault> {
-    match new_tally(alloc, plan) {
+/// The counters of a plan's workers, which mark the senders that rest if there are marks.
+fn tally_of(
+    alloc: Global,
+    plan: &Plan,
+    rests: Option<&Arc<Rests, Global>>,
+) -> Result<Arc<Tally, Global>, ServeFault> {
+    match new_tally(alloc, plan, rests) {
         Ok(tally) => Ok(tally),
         Err(refused) => Err(refused.into()),
     }
 }
 
-fn new_tally(alloc: Global, plan: &Plan) -> Result<Arc<Tally, Global>, AllocError> {
+fn new_tally(
+    alloc: Global,
+    plan: &Plan,
+    rests: Option<&Arc<Rests, Global>>,
+) -> Result<Arc<Tally, Global>, AllocError> {
     let tally = Tally::new(alloc, plan)?;
+    let tally = match rests {
+        Some(rests) => tally.with_rests(Arc::try_clone(rests)?),
+        None => tally,
+    };
     Ok(Arc::new(alloc, tally)?)
 }
 
@@ -202,16 +304,18 @@ fn open_file<H: AllocGlobal + Files<File = File>>(
     Ok((journal, size))
 }
 
-/// The same for a plan whose workers count; the gates of the device are counted too.
+/// The same for a plan whose workers count, and mark the senders that rest if there are marks; the gates of the device
+/// are counted too.
 fn open_tallied<H: AllocGlobal + Files<File = File>>(
     rt: &H,
     file: &str,
     plan: &Plan,
+    rests: Option<&Arc<Rests, Global>>,
     lines: &Arc<ErrorLines, Global>,
 ) -> Result<(Journal<CountedDisk<FileDisk>>, u64, Arc<Tally, Global>), CommandFault>
     ensures whole { IfOk result (λ opened. opened.0.broken ≡ false) }
 {
-    let tally = tally_of(rt.alloc(), plan)?;
+    let tally = tally_of(rt.alloc(), plan, rests)?;
     let (journal, size) = open_counted(rt, file, &tally, lines)?;
     Ok((journal, size, tally))
 }

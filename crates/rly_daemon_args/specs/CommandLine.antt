@@ -81,11 +81,11 @@ unfoldable pub audit_app : App
 audit_app = with_rule (new_app (codes "audit")) (path_rule (codes "file"))
 
 unfoldable pub serve_app : App
-serve_app = with_rule (with_rule (with_rule (with_rule (with_rule (new_app (codes "serve"))
+serve_app = with_rule (with_rule (with_rule (with_rule (with_rule (with_rule (new_app (codes "serve"))
     (path_rule (codes "file"))) (path_rule (codes "plan")))
     (option_rule (codes "turns") (codes "0")))
     (option_rule (codes "report") (codes "0")))
-    gather_rule
+    gather_rule) (flag_rule (codes "events"))
 
 unfoldable pub key_app : App
 key_app = new_app (codes "key")
@@ -157,12 +157,13 @@ IsSettings (Some (command, rows)) (Play file batch) = (command ≡ codes "play")
     × (file.now ≡ path_in (codes "file") rows)
     × HasNumber rows (codes "batch") 1 batch
 IsSettings (Some (command, rows)) (Audit file) = (command ≡ codes "audit") × (file.now ≡ path_in (codes "file") rows)
-IsSettings (Some (command, rows)) (Serve file plan turns report gather) = (command ≡ codes "serve")
+IsSettings (Some (command, rows)) (Serve file plan turns report gather events) = (command ≡ codes "serve")
     × (file.now ≡ path_in (codes "file") rows)
     × (plan.now ≡ path_in (codes "plan") rows)
     × HasNumber rows (codes "turns") 0 turns
     × HasNumber rows (codes "report") 0 report
     × HasNumber rows (codes "gather") 0 gather
+    × HasFlag rows (codes "events") events
 IsSettings (Some (command, rows)) Key = command ≡ codes "key"
 IsSettings (Some (command, rows)) (Plan plan at) = (command ≡ codes "plan")
     × (plan.now ≡ path_in (codes "plan") rows)

@@ -93,6 +93,7 @@ fn settings_of<'a>(matches: &ArgMatches<'a>) -> Option<Settings<'a>>
         turns: number_of(options, "turns", DEFAULT_TURNS),
         report: number_of(options, "report", DEFAULT_REPORT),
         gather: number_of(options, "gather", DEFAULT_GATHER),
+        events: has_flag(options, "events"),
     })
 }
 

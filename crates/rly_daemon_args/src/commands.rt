@@ -187,7 +187,13 @@ fn serve<'a>(alloc: Global) -> Result<Command<'a>, AllocError>
         "0",
         "Seconds between reports on standard output: queues, CoDel, packets, device; 0 = off",
     );
-    with_arg(with_report, gather(alloc))
+    let with_gather = with_arg(with_report, gather(alloc));
+    let events = flag(
+        alloc,
+        "events",
+        "Writes a line on standard output when a hop opens, closes, or has nothing left to send",
+    );
+    with_arg(with_gather, events)
 }
 
 fn key<'a>(alloc: Global) -> Command<'a>

@@ -48,6 +48,8 @@ pub enum Settings<'a> {
         report: u64,
         /// Milliseconds for which a round waits for more calls, 0 to 60,000: 0 = not at all.
         gather: u64,
+        /// Whether the events of its hops are written.
+        events: bool,
     },
     /// A new key of a link.
     Key,

@@ -1,6 +1,6 @@
 //! The running relay with a reporter in parallel.
 
-ghost use Rattle.std.specs.Prelude.{◌≡◌, ◌≤◌, ◌+◌, ◌∷◌, ◌++◌, [], Err, IfOk, OnOk, false, length, map, true};
+ghost use Rattle.std.specs.Prelude.{◌≡◌, ◌≤◌, ◌+◌, ◌∷◌, ◌++◌, [], Err, IfOk, Ok, OnOk, false, length, map, true};
 ghost use Rattle.std.specs.List.{list_all};
 ghost use Rattle.rly_core.specs.declared.refusal.Refusal.TheVariants as refusal;
 ghost use Rattle.rly_station.specs.declared.serve_fault.ServeFault.TheVariants as fault;
@@ -57,7 +57,7 @@ pub type UdpReported<'a, 'o, D, H> = Reported<
 /// The inputs of a station's reporter.
 #[derive(Drop)]
 pub struct Reports<'o> {
-    /// Seconds between two reports.
+    /// Seconds between two reports: 0 = none.
     pub seconds: u64,
     /// The counters of the workers.
     pub tally: Arc<Tally, Global>,
@@ -180,11 +180,34 @@ fn run_tallied<
         (W.contents writer.old) (W.contents writer.new) r.watched
         × IsAnsweredBy r.relayed.finished.last.value.line r.watched.seat.value) }
 {
-    match run_reported(
+    let outcome = run_reported(
         rt, alloc, journal, gather, plan, posts, bell, pace, counters, writer, stop_flag,
-    ) {
+    );
+    reported_end(outcome, true, is_told)
+}
+
+/// The results of a relay and its reporter if they ended well. `had_thread` is whether the rest of the station had its
+/// threads.
+pub(crate) fn reported_end<
+    D: Disk + Drop,
+    L: Link + Drop,
+    T: Turn + Drop,
+    K: Waker + Drop,
+    P: ReportClock + Drop,
+    C: Counters + Drop,
+>(
+    outcome: Result<Reported<D, L, T, K, P, C>, Journal<D>>,
+    had_thread: bool,
+    is_told: bool,
+) -> Result<Reported<D, L, T, K, P, C>, (ServeFault, D)>
+    ensures same { IfOk result (λ r. outcome ≡ Ok r) }
+    ensures complete { IfOk result (λ r. r.relayed.complete ≡ true) }
+    ensures whole { IfOk result (λ r. r.relayed.finished.broken ≡ false) }
+    ensures threads { OnOk result (had_thread ≡ true) }
+{
+    match outcome {
         Ok(reported) => {
-            let is_complete = reported.relayed.complete && reported.had_thread;
+            let is_complete = reported.relayed.complete && reported.had_thread && had_thread;
             match outcome_of(reported.relayed.finished.broken, is_complete, is_told) {
                 Ok(()) => Ok(reported),
                 Err(fault) => Err((fault, disk_of(reported.relayed))),
@@ -195,7 +218,7 @@ fn run_tallied<
 }
 
 /// The workers of a plan, whose links publish their counts to a tally, and whether the startup lines were written.
-fn tallied_start<'a, H: AllocGlobal + Net + Clock, D: Disk, E: Write>(
+pub(crate) fn tallied_start<'a, H: AllocGlobal + Net + Clock, D: Disk, E: Write>(
     rt: &'a H,
     journal: &Journal<D>,
     plan: &Plan,

@@ -20,8 +20,8 @@ const LONGEST_NAP: u64 = 500_000;
 pub struct WallReportClock<'a, C: Clock + Drop> {
     clock: C,
     stop_flag: &'a OnceLock<bool>,
-    /// Microseconds between two reports.
-    every: u64,
+    /// Microseconds between two reports, if there are any.
+    every: Option<u64>,
     /// The time of the next one, by the monotonic clock. The first one is due at once.
     due: Option<u64>,
     /// The remaining sleeps: no limit if there is no number.
@@ -31,7 +31,7 @@ pub struct WallReportClock<'a, C: Clock + Drop> {
 }
 
 impl<'a, C: Clock + Drop> WallReportClock<'a, C> {
-    /// A report every `seconds` seconds, with at most `naps` sleeps: no limit if 0.
+    /// A report every `seconds` seconds: none if 0. There are at most `naps` sleeps: no limit if 0.
     pub fn new(
         clock: C,
         stop_flag: &'a OnceLock<bool>,
@@ -43,7 +43,7 @@ impl<'a, C: Clock + Drop> WallReportClock<'a, C> {
         WallReportClock {
             clock,
             stop_flag,
-            every: seconds.saturating_mul(1_000_000),
+            every: interval_of(seconds),
             due: None,
             naps: if naps == 0 { None } else { Some(naps) },
             told: Log::new(),
@@ -54,6 +54,7 @@ impl<'a, C: Clock + Drop> WallReportClock<'a, C> {
     fn wait<R: Wait>(&mut self, rt: &R) -> Option<u64>
         ensures { self.new ≡ record self.old { due = self.new.due; naps = self.new.naps } }
     {
+        let every = self.every?;
         for _nap in rt.forever() {
             if self.stop_flag.get().is_some() {
                 return None;
@@ -61,7 +62,7 @@ impl<'a, C: Clock + Drop> WallReportClock<'a, C> {
             let passed = moment_of(self.clock.monotonic().ok());
             let due = self.due.unwrap_or(passed);
             if due <= passed {
-                self.due = Some(next_due(due, passed, self.every));
+                self.due = Some(next_due(due, passed, every));
                 return Some(moment_of(self.clock.since_1970().ok()));
             }
             if !self.nap(due - passed) {
@@ -85,6 +86,14 @@ impl<'a, C: Clock + Drop> WallReportClock<'a, C> {
         };
         thread::sleep(&self.clock, Duration::from_micros(nap));
         true
+    }
+}
+
+/// This many seconds in microseconds: none if 0.
+fn interval_of(seconds: u64) -> Option<u64> {
+    match seconds {
+        0 => None,
+        _ => Some(seconds.saturating_mul(1_000_000)),
     }
 }
 

@@ -60,6 +60,7 @@ const DEFAULTS: [Given; 7] = [
             turns: 0,
             report: 0,
             gather: 0,
+            events: false,
         },
     ),
     (&["rly", "key"], Settings::Key),
@@ -132,6 +133,7 @@ const GIVEN: [Given; 5] = [
             "spool",
             "--gather",
             "60000",
+            "--events",
             "plan.toml",
         ],
         Settings::Serve {
@@ -140,6 +142,7 @@ const GIVEN: [Given; 5] = [
             turns: 20,
             report: 15,
             gather: 60_000,
+            events: true,
         },
     ),
     (
@@ -246,6 +249,7 @@ fn expect_serve(rt: &(impl Abort + AllocGlobal), text: &str, number: u64) {
         turns: number,
         report: number,
         gather: 0,
+        events: false,
     };
     expect_settings(rt, words.as_slice(), &wanted);
 }
@@ -274,6 +278,7 @@ fn expect_path(rt: &(impl Abort + AllocGlobal), path: &str) {
         turns: 0,
         report: 0,
         gather: 0,
+        events: false,
     };
     expect_settings(rt, ["rly", "serve", "spool", path].as_slice(), &served);
 }

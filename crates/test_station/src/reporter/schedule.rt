@@ -42,3 +42,15 @@ fn second_report_comes_after_the_interval(rt: HostRuntime) {
     expect!(rt; reports.next(&rt) == Some(70_000_000));
     expect!(rt; reports.next(&rt).is_none());
 }
+
+/// Without reports none is due, and nothing sleeps for one.
+#[test]
+fn no_report_comes_without_an_interval(rt: HostRuntime) {
+    let clock = SleepClock {
+        at: AtomicU64::new(10_000_000),
+    };
+    let stop_flag = OnceLock::new();
+    let mut reports = WallReportClock::new(&clock, &stop_flag, 0, 0);
+    expect!(rt; reports.next(&rt).is_none());
+    expect!(rt; clock.at.load(Ordering::SeqCst) == 10_000_000);
+}

@@ -6,4 +6,5 @@ unfolding serve_app
 returns c =
     let files = c.with_path-with_plan.ensures _ (c.with_path-with_file.ensures _ c.command_with_help-bare.ensures) in
     let report = c.with_option-with_report.ensures _ (c.with_option-with_turns.ensures _ files) in
-    c.with_arg.ensures _ _ report c.gather.ensures.rule
+    let gather = c.with_arg-with_gather.ensures _ _ report c.gather.ensures.rule in
+    c.with_arg.ensures _ _ gather c.flag-events.ensures.rule

@@ -1,13 +1,22 @@
-use Rattle.std.proofs.Common.{◌≡◌, ◌∙◌, rules, sym, true}
+use Rattle.std.proofs.Common.{◌∙◌, sym}
+use Rattle.rly_daemon_serve.proofs.Endless.{both_then}
+use Rattle.rly_daemon_serve.proofs.Outcomes.{same_ok}
 use Rattle.rly_daemon_serve.proofs.reported_relay.run_tallied.Goals as goal
 
-pub returns-in-Ok-outcome_of-clause-complete : goal.returns-in-Ok-outcome_of-clause-complete
-returns-in-Ok-outcome_of-clause-complete g c =
-    let complete : c.in-Ok.reported.relayed.complete ≡ true = search rules in
-    sym c.in-Ok.ensures.end.end.complete ∙ complete
+pub returns-clause-end : goal.returns-clause-end
+returns-clause-end g c = same_ok _ c.run_reported-outcome.result c.reported_end.result c.reported_end.ensures.same c.run_reported-outcome.ensures.end
 
-pub returns-in-Ok-outcome_of-clause-whole : goal.returns-in-Ok-outcome_of-clause-whole
-returns-in-Ok-outcome_of-clause-whole g c = sym c.in-Ok.ensures.end.end.broken ∙ c.in-Ok-outcome_of.ensures.ok.0
+pub returns-clause-complete : goal.returns-clause-complete
+returns-clause-complete g c =
+    both_then c.reported_end.result (same_ok _ c.run_reported-outcome.result c.reported_end.result c.reported_end.ensures.same c.run_reported-outcome.ensures.end)
+    c.reported_end.ensures.complete (λ r end complete. sym end.end.complete ∙ complete)
 
-pub returns-in-Ok-outcome_of-clause-watched : goal.returns-in-Ok-outcome_of-clause-watched
-returns-in-Ok-outcome_of-clause-watched g c = (c.in-Ok.ensures.watched, c.in-Ok.ensures.known)
+pub returns-clause-whole : goal.returns-clause-whole
+returns-clause-whole g c =
+    both_then c.reported_end.result (same_ok _ c.run_reported-outcome.result c.reported_end.result c.reported_end.ensures.same c.run_reported-outcome.ensures.end)
+    c.reported_end.ensures.whole (λ r end whole. sym end.end.broken ∙ whole)
+
+pub returns-clause-watched : goal.returns-clause-watched
+returns-clause-watched g c =
+    both_then c.reported_end.result (same_ok _ c.run_reported-outcome.result c.reported_end.result c.reported_end.ensures.same c.run_reported-outcome.ensures.watched)
+    (same_ok _ c.run_reported-outcome.result c.reported_end.result c.reported_end.ensures.same c.run_reported-outcome.ensures.known) (λ r watched known. (watched, known))
