@@ -1,0 +1,7 @@
+pub mod Events
+mod FaultCalls
+mod LawLemmas
+mod Listing
+mod MemCalls
+mod Names
+mod RecordLemmas

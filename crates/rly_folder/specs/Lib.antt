@@ -1,0 +1,9 @@
+pub mod FaultFolder
+pub mod FolderCalls
+pub mod FolderLaws
+pub mod FolderModel
+pub mod HelpersFault
+pub mod HelpersFolder
+pub mod MemFolder
+pub mod Names
+pub mod Record
