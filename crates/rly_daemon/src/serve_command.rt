@@ -151,10 +151,13 @@ fn watch_plan<H: Host, W: Write + Send, E: Write>(
 fn watch_of(alloc: Global, plan: &Plan) -> Result<(Arc<Rests, Global>, HopLines), ServeFault>
     requires { IsSoundPlan plan.now }
 {
-    match new_watch(alloc, plan) {
-        Ok((Some(rests), lines)) => Ok((rests, lines)),
-        Ok((None, _)) => Err(ServeFault::Worker),
-        Err(refused) => Err(refused.into()),
+    let (rests, lines) = match new_watch(alloc, plan) {
+        Ok(watch) => watch,
+        Err(refused) => return Err(refused.into()),
+    };
+    match rests {
+        Some(rests) => Ok((rests, lines)),
+        None => Err(ServeFault::Worker),
     }
 }
 
