@@ -23,6 +23,8 @@ mod expect;
 mod fault_folder;
 #[cfg(test)]
 mod mem;
+#[cfg(test)]
+mod outbox;
 
 #[cfg(test)]
 use rly_folder::{Area, Folder};

@@ -1,0 +1,5 @@
+mod FilesHandedOut
+mod Handed
+mod LawLemmas
+mod Made
+mod Steps

@@ -1,0 +1,4 @@
+pub mod Handing
+pub mod Outbox
+pub mod OutboxCalls
+pub mod Script

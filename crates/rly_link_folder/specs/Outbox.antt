@@ -1,0 +1,39 @@
+-- The state of an outbox in contracts, and the answers to a Data.
+use Rattle.std.specs.Prelude.{◌≡◌, ◌⊎◌, ◌==◌, ◌+◌, ℕ, Bool, true, false, if◌then◌else◌, List}
+use Rattle.rly_core.specs.declared.refusal.Refusal.{Refusal}
+use Rattle.rly_core.specs.declared.refusal.Refusal.TheVariants.{Full}
+use Rattle.rly_folder.specs.FolderCalls.{Faulted, ListNames, Makes}
+use Rattle.rly_folder.specs.FolderModel.{FolderState}
+use Rattle.rly_folder.specs.declared.name.Area.TheVariants.{Out}
+use Rattle.rly_hop.specs.declared.receiving.event.TakeAnswer.{TakeAnswer}
+use Rattle.rly_hop.specs.declared.receiving.event.TakeAnswer.TheVariants as answer
+use Rattle.rly_link_folder.specs.OutboxCalls.{HandsOut, HasRoom}
+use Rattle.rly_link_folder.specs.declared.outbox.Outbox.{Outbox}
+
+abbrev pub folder_of : {F : Type 0} → Outbox F → F
+folder_of outbox = outbox.folder
+
+-- the greatest number of which custody was answered
+abbrev pub greatest_of : {F : Type 0} → Outbox F → ℕ
+greatest_of outbox = outbox.greatest
+
+-- at this number of files none is added
+abbrev pub most_of : {F : Type 0} → Outbox F → ℕ
+most_of outbox = outbox.most
+
+-- the calls of the folder for the next Data, and its answer
+abbrev pub Takes : {D : Type 0} → (D → FolderState) → ℕ → ℕ → ℕ → List ℕ → TakeAnswer → D → D → Type 0
+Takes {D} state most greatest number payload answer.Taken old new =
+    (listed : D) × HasRoom state most true old listed × HandsOut state greatest number payload true listed new
+Takes state most greatest number payload (answer.Already last) old new = ⊥
+Takes state most greatest number payload (answer.Refused refusal) old new =
+    (refusal ≡ Full) × HasRoom state most false old new
+Takes {D} state most greatest number payload answer.Other old new = Makes state (ListNames Out) Faulted old new
+    ⊎ ((listed : D) × HasRoom state most true old listed × HandsOut state greatest number payload false listed new)
+
+-- the greatest number after an answer to the Data of a number
+abbrev pub greatest_after : ℕ → ℕ → TakeAnswer → ℕ
+greatest_after greatest number answer.Taken = number
+greatest_after greatest number (answer.Already last) = greatest
+greatest_after greatest number (answer.Refused refusal) = greatest
+greatest_after greatest number answer.Other = greatest

@@ -1,0 +1,87 @@
+//! The calls that give a file its name, keep the greatest number, and find it.
+
+ghost use Rattle.std.specs.Prelude.{◌≡◌, ◌-◌, Bool, IfOk, OnErr, OnOk, false, get_or, is_ok, length, true};
+ghost use Rattle.rly_folder.specs.FolderCalls.{Faulted, ListNames, Makes};
+ghost use Rattle.rly_folder.specs.declared.name.Area.TheVariants.{Out};
+ghost use Rattle.rly_link_folder.specs.OutboxCalls.{FailsToOpen, Finds, HandsOut, HasRoom, Keeps, Opens, putting};
+ghost use Rattle.rly_link_folder.specs.Script.{MakesEach};
+
+use rly_folder::{Area, Folder, FolderFault, Name};
+
+/// Writes a file and gives it a name, durably. A file that has the name stays.
+fn put<F: Folder>(folder: &mut F, bytes: &[u8], to: Name) -> Result<(), FolderFault>
+    ensures { (linked : Bool) × MakesEach F.state (putting bytes.now to linked) (is_ok result) folder.old folder.new }
+{
+    folder.write(bytes)?;
+    folder.link(to)?;
+    folder.sync()
+}
+
+/// Moves the hidden name from one greatest number to another, durably; makes it if it isn't there.
+fn keep<F: Folder>(folder: &mut F, from: u64, to: u64) -> Result<(), FolderFault>
+    ensures { Keeps F.state from to (is_ok result) folder.old folder.new }
+{
+    let area = Area::Kept;
+    match folder.rename(Name { area, number: from }, Name { area, number: to }) {
+        Ok(true) => folder.sync(),
+        Ok(false) => put(folder, &[], Name { area, number: to }),
+        Err(fault) => Err(fault),
+    }
+}
+
+/// Makes a datagram the file of its number, durably, and then that number the greatest, durably.
+pub(crate) fn hand_out<F: Folder>(
+    folder: &mut F,
+    greatest: u64,
+    number: u64,
+    payload: &[u8],
+) -> Result<(), FolderFault>
+    ensures { HandsOut F.state greatest number payload.now (is_ok result) folder.old folder.new }
+{
+    let area = Area::Out;
+    put(folder, payload, Name { area, number })?;
+    keep(folder, greatest, number)
+}
+
+/// Returns whether fewer than `most` files are handed out now.
+pub(crate) fn has_room<F: Folder>(folder: &mut F, most: u64) -> Result<bool, FolderFault>
+    ensures ok { IfOk result (λ room. HasRoom F.state most room folder.old folder.new) }
+    ensures err { OnErr result (Makes F.state (ListNames Out) Faulted folder.old folder.new) }
+{
+    let numbers = folder.list(Area::Out)?;
+    Ok((numbers.len() as u64) < most)
+}
+
+/// The last of these numbers, 0 if there is none.
+fn last_number(numbers: &[u64]) -> u64
+    ensures { result ≡ get_or numbers.now (length numbers.now - 1) 0 }
+{
+    match numbers.last() {
+        Some(number) => *number,
+        None => 0,
+    }
+}
+
+/// Lists an area, and returns its greatest number, 0 if it has no file.
+fn greatest_in<F: Folder>(folder: &mut F, area: Area) -> Result<u64, FolderFault>
+    ensures ok { IfOk result (λ greatest. Finds F.state area greatest folder.old folder.new) }
+    ensures err { OnErr result (Makes F.state (ListNames area) Faulted folder.old folder.new) }
+{
+    let numbers = folder.list(area)?;
+    Ok(last_number(&numbers))
+}
+
+/// Finds the greatest number that was handed out, and keeps it durably.
+pub(crate) fn recover<F: Folder>(folder: &mut F) -> Result<u64, FolderFault>
+    ensures ok { IfOk result (λ greatest. Opens F.state greatest folder.old folder.new) }
+    ensures err { OnErr result (FailsToOpen F.state folder.old folder.new) }
+{
+    folder.sync()?;
+    let handed = greatest_in(folder, Area::Out)?;
+    let kept = greatest_in(folder, Area::Kept)?;
+    if handed <= kept {
+        return Ok(kept);
+    }
+    keep(folder, kept, handed)?;
+    Ok(handed)
+}

@@ -1,0 +1,78 @@
+// The outgoing half of a folder that plays a neighbour.
+ghost use Rattle.std.specs.Prelude.{◌≡◌, ◌≢◌, ◌+◌, IfErr, IfOk};
+ghost use Rattle.rly_link_folder.specs.OutboxCalls.{FailsToOpen, Opens};
+
+use crate::calls::{hand_out, has_room, recover};
+use rly_core::Refusal;
+use rly_folder::Folder;
+use rly_hop::TakeAnswer;
+
+/// Plays the neighbour station of a hop: the Data of the hop become files of the folder. Its answers are those to the
+/// Takes of a receiving core (`rly_hop::Receiving`), which makes the messages of them.
+#[derive(Drop)]
+pub struct Outbox<F> {
+    folder: F,
+    greatest: u64,
+    most: u64,
+}
+
+impl<F: Folder> Outbox<F> {
+    ghost use Rattle.rly_link_folder.specs.Outbox.{Takes, folder_of, greatest_after, greatest_of, most_of};
+
+    /// Opens a folder to which no more files are added while it has `most`. Returns the folder if a call failed.
+    pub fn open(folder: F, most: u64) -> Result<Self, F>
+        ensures opens { IfOk result (λ outbox. Opens F.state (greatest_of outbox) folder (folder_of outbox)) }
+        ensures most { IfOk result (λ outbox. most_of outbox ≡ most) }
+        ensures fails { IfErr result (λ left. FailsToOpen F.state folder left) }
+    {
+        let mut folder = folder;
+        match recover(&mut folder) {
+            Ok(greatest) => Ok(Outbox {
+                folder,
+                greatest,
+                most,
+            }),
+            Err(_) => Err(folder),
+        }
+    }
+
+    /// Handles the Data of this number: the next one becomes a file, and is answered `Taken` once both it and its number
+    /// are durable; `Refused(Full)` if there are `most` files; `Other`, which sends nothing, if a call failed. The same
+    /// Data may come again after each of these. Any other Data is answered by the greatest number.
+    pub fn take(&mut self, number: u64, payload: &[u8]) -> TakeAnswer
+        ensures next { number ≡ greatest_of self.old + 1
+            → Takes F.state (most_of self.old) (greatest_of self.old) number payload.now result
+            (folder_of self.old) (folder_of self.new) }
+        ensures other { number ≢ greatest_of self.old + 1 → result ≡ TakeAnswer.Already (greatest_of self.old) }
+        ensures untouched { number ≢ greatest_of self.old + 1 → self.new ≡ self.old }
+        ensures greatest { greatest_of self.new ≡ greatest_after (greatest_of self.old) number result }
+        ensures most { most_of self.new ≡ most_of self.old }
+    {
+        if self.greatest.checked_add(1) != Some(number) {
+            return TakeAnswer::Already(self.greatest);
+        }
+        match has_room(&mut self.folder, self.most) {
+            Ok(true) => match hand_out(&mut self.folder, self.greatest, number, payload) {
+                Ok(()) => {
+                    self.greatest = number;
+                    TakeAnswer::Taken
+                }
+                Err(_) => TakeAnswer::Other,
+            },
+            Ok(false) => TakeAnswer::Refused(Refusal::Full),
+            Err(_) => TakeAnswer::Other,
+        }
+    }
+
+    /// Returns the folder.
+    pub fn into_folder(self) -> F
+        ensures { result ≡ folder_of self }
+    {
+        let Outbox {
+            folder,
+            greatest: _,
+            most: _,
+        } = self;
+        folder
+    }
+}
