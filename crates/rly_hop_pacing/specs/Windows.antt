@@ -39,9 +39,10 @@ first_congestion window is_rated = record {
 abbrev pub shortest : Congestion → ℕ
 shortest c = min c.span.shortest c.before.shortest
 
--- a buffer of the link fills: a round trip takes an eighth longer than the shortest round
+-- A buffer of the link fills: a round trip takes an eighth longer than the shortest round. A round trip that takes less
+-- than 4 milliseconds longer says nothing (RFC 9406): the ends' disks and threads take as long.
 abbrev pub is_full : Congestion → ℕ → Bool
-is_full c trip = nat_le (shortest c + shortest c / 8) trip
+is_full c trip = nat_le (shortest c + max (shortest c / 8) 4000) trip
 
 -- How many numbers count as heard in a round: those that were, and, unless the link is full or the window still
 -- doubles, what was sent again, up to half as many.
@@ -56,12 +57,14 @@ with_step c =
     else record c { rounds = 0; is_starting = false; before = c.span; span = first_span }
 
 -- The window that keeps the greatest rate of two spans: twice as much as it brings in the shortest round while
--- starting, then an eighth more, and in the first round of a span a sixteenth less.
+-- starting, then an eighth more, and in the first round of a span a sixteenth less. A round counts as at least 4
+-- milliseconds.
 abbrev pub fitting : Congestion → ℕ
 fitting c =
     let rate = faster c.span.rate c.before.rate in
-    min (if c.is_starting then max (passed_in rate (shortest c) 32) 10
-    else (if c.rounds == 0 then max (passed_in rate (shortest c) 15) 4 else max (passed_in rate (shortest c) 18) 4))
+    let round = max (shortest c) 4000 in
+    min (if c.is_starting then max (passed_in rate round 32) 10
+    else (if c.rounds == 0 then max (passed_in rate round 15) 4 else max (passed_in rate round 18) 4))
     c.window
 
 -- the window after a round in which it was used up: after 64 rounds without a repeat it grows by one

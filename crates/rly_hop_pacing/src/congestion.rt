@@ -17,6 +17,10 @@ const SPAN: u64 = 8;
 /// After this many rounds without a repeat the window grows by one in each.
 const CALM: u64 = 64;
 
+/// By how many microseconds round trips differ though no buffer of the link fills (RFC 9406): both ends write to their
+/// disks and wake their threads meanwhile.
+const JITTER: u32 = 4_000;
+
 /// How many numbers were heard in a time.
 #[derive(Clone, Copy)]
 pub(crate) struct DeliveryRate {
@@ -185,12 +189,13 @@ impl Congestion {
         self.span.shortest.min(self.before.shortest)
     }
 
-    /// Whether a buffer of the link fills: a round trip takes an eighth longer than the shortest round.
+    /// Whether a buffer of the link fills: a round trip takes an eighth longer than the shortest round, and at least
+    /// `JITTER` longer.
     fn is_full(&self, trip: u64) -> bool
         ensures { result ≡ is_full self.now trip }
     {
         let shortest = u64::from(self.shortest());
-        shortest + shortest / 8 <= trip
+        shortest + (shortest / 8).max(u64::from(JITTER)) <= trip
     }
 
     /// A round of the span is over. After the last one, another span begins, and the window no longer doubles.
@@ -221,7 +226,7 @@ impl Congestion {
 
     /// The window that keeps the greatest rate: while starting twice as much as that rate brings in the shortest round,
     /// then an eighth more, so that it grows if the link carries more, and in the first round of each span a sixteenth
-    /// less, so that what waits in the link's buffer goes out.
+    /// less, so that what waits in the link's buffer goes out. A round counts as at least `JITTER`.
     fn fitting(&self) -> u32
         ensures { result ≡ fitting self.now }
     {
@@ -233,7 +238,8 @@ impl Congestion {
         } else {
             (18, LEAST_WINDOW)
         };
-        rate.passed_in(self.shortest(), sixteenths)
+        let round = self.shortest().max(JITTER);
+        rate.passed_in(round, sixteenths)
             .max(u64::from(least))
             .min(u64::from(self.window)) as u32
     }

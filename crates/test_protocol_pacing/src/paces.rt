@@ -3,7 +3,7 @@
 use crate::script::Act::{
     self, Again, Contact, Custody, Few, Hears, Room, Sends, Spare, Unsent, WindowIs,
 };
-use crate::script::{PLAIN, Script, follow_all};
+use crate::script::{PLAIN, Script, follow_all, is_done, opened};
 use std::rt::HostRuntime;
 
 const MISSING: [Script<'static>; 7] = [
@@ -234,7 +234,16 @@ fn spares(rt: HostRuntime) {
     follow_all(&rt, &SPARES);
 }
 
-const ROOMS: [Script<'static>; 4] = [
+/// Ten numbers, heard after 16 ms, and then twenty.
+const TEN_AND_TWENTY: [(u64, Act<'static>); 5] = [
+    (0, Sends(&[1, 2, 3, 4, 5, 6, 7, 8, 9, 10])),
+    (16_000, Custody(10)),
+    (16_000, Room(20)),
+    (16_000, Sends(&[11, 12, 13, 14, 15, 16, 17, 18, 19, 20])),
+    (16_000, Sends(&[21, 22, 23, 24, 25, 26, 27, 28, 29, 30])),
+];
+
+const ROOMS: [Script<'static>; 5] = [
     // In 400 ms ten were heard: twice as many may be on the way. They go out 20 ms apart, and two at once.
     (
         "ten may be sent at first, and twice as many after a round",
@@ -250,6 +259,21 @@ const ROOMS: [Script<'static>; 4] = [
             (400_000, Sends(&[11, 12])),
             (419_999, Room(0)),
             (420_000, Room(1)),
+        ],
+    ),
+    // Ten were heard in a millisecond, and so 40 in four: more than the hop's window. The next 16 took 3 ms.
+    (
+        "a round counts as at least 4 ms",
+        (160, 16, false),
+        &[
+            (0, Sends(&[1, 2, 3, 4, 5, 6, 7, 8, 9, 10])),
+            (1_000, Custody(10)),
+            (1_000, Room(16)),
+            (1_000, Sends(&[11, 12, 13, 14, 15, 16, 17, 18])),
+            (1_000, Sends(&[19, 20, 21, 22, 23, 24, 25, 26])),
+            (1_000, Room(0)),
+            (4_000, Custody(26)),
+            (4_000, Room(16)),
         ],
     ),
     // One was heard in the first round, and ten may be on the way still: 40 ms apart, and two at once.
@@ -301,4 +325,25 @@ const ROOMS: [Script<'static>; 4] = [
 #[test]
 fn rooms(rt: HostRuntime) {
     follow_all(&rt, &ROOMS);
+}
+
+/// How much may be sent if the twenty are heard at this moment.
+const HEARD: [(u64, u64); 2] = [
+    // In the shortest round, 16 ms, 20 * 16,000 / 19,999 numbers come, and twice as many may be on the way.
+    (35_999, 33),
+    // It took 4 ms longer: a buffer fills. So an eighth more than 16.
+    (36_000, 18),
+];
+
+/// A buffer of the link fills if a round trip takes 4 ms longer, and an eighth of it.
+#[test]
+fn jitter(rt: HostRuntime) {
+    for (at, room) in HEARD {
+        let mut pace = opened(&rt, PLAIN);
+        for (moment, act) in TEN_AND_TWENTY {
+            expect!(rt; is_done(&mut pace, moment, act), at);
+        }
+        pace.on_covered(30, at);
+        expect!(rt; pace.room(at) == room, at);
+    }
 }

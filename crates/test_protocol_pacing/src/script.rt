@@ -75,7 +75,7 @@ pub(crate) fn go_again(pace: &mut CongestionControl, most: u64, at: u64, numbers
 }
 
 /// Does an act. Whether it was as it should be.
-fn is_done(pace: &mut CongestionControl, at: u64, act: Act<'_>) -> bool {
+pub(crate) fn is_done(pace: &mut CongestionControl, at: u64, act: Act<'_>) -> bool {
     match act {
         Contact(is_open) => return pace.contact(is_open) == is_open,
         WindowIs(first, next) => pace.window_is(first, next),
