@@ -1,0 +1,138 @@
+"""The unit of `examples/rly.service` under a systemd of its own, in namespaces of its own: whatever ends the station, it serves again."""
+import os
+import select
+import shutil
+import signal
+import socket
+import struct
+import subprocess
+import time
+import unittest
+
+from program import RLY, TOP, Rows
+
+SYSTEMD = "/lib/systemd/systemd"
+OWN, PEER = 7, 3
+# How long it may take until a station that ended serves again: the unit's pause is 5 seconds.
+AGAIN = 10.0
+# The namespaces, and in them systemd with one unit. Nothing of the machine's own units is started.
+START = """
+mount --make-rprivate /
+mount -t tmpfs tmpfs /run
+mkdir -p /run/systemd/system/rly.service.d
+cp "$1"/try.target "$1"/rly.service /run/systemd/system
+cp "$1"/place.conf /run/systemd/system/rly.service.d
+container=docker exec /lib/systemd/systemd --system --unit=try.target --log-target=console --show-status=no
+"""
+NAMESPACES = ["unshare", "--fork", "--kill-child", "--pid", "--mount", "--uts", "--ipc", "--mount-proc"]
+
+
+def may_run():
+    """Whether this machine has a systemd that may run beside the test."""
+    if not os.path.exists(SYSTEMD) or shutil.which("unshare") is None:
+        return False
+    return subprocess.run([*NAMESPACES, "mount", "--make-rprivate", "/"], capture_output=True).returncode == 0
+
+
+@unittest.skipUnless(may_run(), "no systemd that may have namespaces of its own")
+class Services(Rows):
+    """A station of one peer, whose neighbour is this test."""
+
+    def setUp(self):
+        super().setUp()
+        os.chmod(self.folder, 0o755)
+        self.neighbour = socket.socket(socket.AF_INET, socket.SOCK_DGRAM)
+        self.addCleanup(self.neighbour.close)
+        self.neighbour.bind(("127.0.0.1", 0))
+        self.port, hop_port = self.free_port(), self.free_port()
+        remote = self.neighbour.getsockname()[1]
+        self.plan = (
+            f'station = {OWN}\n[[peer]]\nid = 1\nstation = {PEER}\nlisten = "127.0.0.1:{self.port}"\n'
+            f'remote = "127.0.0.1:{remote}"\n[[hop]]\nid = 1\nstation = 9\nlisten = "127.0.0.1:{hop_port}"\nremote = "127.0.0.1:9"\n'
+            "contacts = []\n[[route]]\ndestination = 12\nhop = 1\n"
+        )
+        self.write("plan.toml", self.plan, 0o644)
+        self.make_small("device.rly")
+        with open(f"{TOP}/examples/rly.service") as file:
+            self.unit = file.read()
+
+    def free_port(self):
+        with socket.socket(socket.AF_INET, socket.SOCK_DGRAM) as keeper:
+            keeper.bind(("127.0.0.1", 0))
+            return keeper.getsockname()[1]
+
+    def serve(self):
+        """Starts systemd with the unit, whose program, files and user alone are the test's."""
+        place = f"[Unit]\nDefaultDependencies=no\n[Service]\nExecStart=\nExecStart={RLY} serve {self.path('device.rly')} "
+        place += f"{self.path('plan.toml')}\nDynamicUser=no\nUser=root\nPrivateTmp=no\nReadWritePaths={self.folder}\n"
+        place += f"StandardError=file:{self.path('errors')}\n"
+        self.write("place.conf", place + "CapabilityBoundingSet=~\nPrivateDevices=no\nProtectHome=no\n", 0o644)
+        self.write("try.target", "[Unit]\nDefaultDependencies=no\nWants=rly.service\n", 0o644)
+        self.write("rly.service", self.unit, 0o644)
+        with open(self.path("log"), "wb") as log:
+            run = subprocess.Popen([*NAMESPACES, "sh", "-c", START, "sh", self.folder], stdout=log, stderr=log)
+        self.addCleanup(run.wait)
+        self.addCleanup(run.kill)
+
+    def is_answered(self):
+        """Whether the station answers a Data with number 0 at once."""
+        ask = struct.pack(">2sBBHHQHH", b"RL", 1, 1, PEER, OWN, 0, 2, 12)
+        try:
+            self.neighbour.sendto(ask, ("127.0.0.1", self.port))
+            if not select.select([self.neighbour], [], [], 0.2)[0]:
+                return False
+            return self.neighbour.recv(64)[3] == 2
+        except ConnectionRefusedError:
+            return False
+
+    def expect_served(self, within=AGAIN):
+        """Waits until the station answers, and fails with systemd's log if it doesn't in this time."""
+        until = time.monotonic() + within
+        while not self.is_answered():
+            if time.monotonic() > until:
+                self.fail(self.read("errors").decode()[-2_000:])
+
+    def stations(self):
+        """The processes that serve this test's device."""
+        found = []
+        for number in filter(str.isdigit, os.listdir("/proc")):
+            try:
+                with open(f"/proc/{number}/cmdline", "rb") as file:
+                    words = file.read().split(b"\0")
+            except OSError:
+                continue
+            if b"serve" in words and self.path("device.rly").encode() in words:
+                found.append(int(number))
+        return found
+
+    def end(self, number):
+        """Sends the station a signal, and waits until it has ended."""
+        stations = self.stations()
+        self.assertEqual(len(stations), 1)
+        os.kill(stations[0], number)
+        until = time.monotonic() + 5.0
+        while stations[0] in self.stations():
+            self.assertLess(time.monotonic(), until, f"signal {number} doesn't end it")
+            time.sleep(0.02)
+
+    def test_it_serves_again_after_each_signal(self):
+        self.serve()
+        self.expect_served()
+        for number in (signal.SIGHUP, signal.SIGTERM, signal.SIGINT, signal.SIGKILL):
+            with self.subTest(number.name):
+                self.end(number)
+                self.expect_served()
+
+    def test_it_serves_once_its_plan_is_mended(self):
+        self.serve()
+        self.expect_served()
+        self.write("plan.toml", self.plan.replace("station = 9", "station = nine"), 0o644)
+        self.end(signal.SIGTERM)
+        time.sleep(7.0)
+        self.assertFalse(self.is_answered())
+        self.write("plan.toml", self.plan, 0o644)
+        self.expect_served()
+
+
+if __name__ == "__main__":
+    unittest.main()
