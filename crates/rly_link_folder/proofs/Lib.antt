@@ -2,4 +2,5 @@ mod FilesHandedOut
 mod Handed
 mod LawLemmas
 mod Made
+mod Packets
 mod Steps

@@ -1,4 +1,5 @@
 pub mod Handing
+pub mod HopNeighbour
 pub mod Outbox
 pub mod OutboxCalls
 pub mod Script

@@ -8,8 +8,10 @@
 #![tactic(auto)]
 
 mod calls;
+mod hop_neighbour;
 mod laws;
 mod outbox;
 
+pub use hop_neighbour::HopNeighbour;
 pub use laws::{law_hands_out, law_lists, law_opens_to};
 pub use outbox::Outbox;

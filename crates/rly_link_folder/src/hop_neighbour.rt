@@ -1,0 +1,202 @@
+// The neighbour station of a hop, played by a folder.
+ghost use Rattle.std.specs.Option.{option_map};
+ghost use Rattle.std.specs.Prelude.{◌≡◌, ◌≤◌, IfNone, IfSome, None, Some, length, take};
+ghost use Rattle.rly_hop.specs.Payloads.{message_bytes};
+ghost use Rattle.rly_hop.specs.Receiving.{receiver, take_reply};
+ghost use Rattle.rly_hop.specs.Spelling.{IsStation, spelling, write_refusal};
+ghost use Rattle.rly_link.specs.LinkHistory.{message_in};
+ghost use Rattle.rly_link_folder.specs.HopNeighbour.{after_reply, data_of, next_reply, reply_of, with_reply};
+
+use crate::Outbox;
+use rly_folder::Folder;
+use rly_hop::{
+    InAction, InEvent, MAX_MESSAGE, Message, Receiving, StationId, TakeAnswer, read_message,
+    write_message,
+};
+use std::marker::Model;
+
+/// The messages that wait to be sent: at most one of each kind, since a later Custody says more than one before it, and a
+/// refused Data comes again.
+#[derive(Clone, Copy)]
+struct Replies {
+    custody: Option<u64>,
+    refused: Option<(u64, u8)>,
+}
+
+/// The neighbour station of a hop, played by a folder: it takes the hop's Data in order, makes files of them, and answers
+/// as any station does.
+#[derive(Drop)]
+pub struct HopNeighbour<F> {
+    own: StationId,
+    station: StationId,
+    core: Receiving,
+    outbox: Outbox<F>,
+    replies: Replies,
+}
+
+impl<F> Model for HopNeighbour<F> {
+    ghost use Rattle.std.specs.Prelude.{◌≡◌};
+    ghost use Rattle.rly_hop.specs.Receiving.{receiver};
+    ghost use Rattle.rly_hop.specs.Spelling.{IsStation};
+    ghost use Rattle.rly_link_folder.specs.HopNeighbour.{IsDurable, Neighbour};
+    ghost use Rattle.rly_link_folder.specs.Outbox.{greatest_of};
+
+    ghost Value = { Neighbour F };
+
+    ghost view = { λ n. record { core = n.core; outbox = n.outbox; replies = n.replies } };
+
+    ghost invariant = { λ n. (n.core ≡ receiver n.own n.station) × (IsStation n.own × IsStation n.station)
+        × IsDurable n.replies.custody (greatest_of n.outbox) };
+}
+
+impl<F: Folder> HopNeighbour<F> {
+    ghost use Rattle.rly_link_folder.specs.HopNeighbour.{Handles, IsDurable};
+    ghost use Rattle.rly_link_folder.specs.Outbox.{greatest_of};
+
+    /// The station `own`, which this folder plays, for the hop of the station `station`. At first it sends nothing.
+    pub fn new(own: StationId, station: StationId, outbox: Outbox<F>) -> Self
+        requires stations { IsStation own × IsStation station }
+        ensures core { result.core ≡ receiver own station }
+        ensures outbox { result.outbox ≡ outbox }
+        ensures replies { result.replies ≡ record { custody = None; refused = None } }
+    {
+        HopNeighbour {
+            own,
+            station,
+            core: Receiving::new(own, station),
+            outbox,
+            replies: Replies {
+                custody: None,
+                refused: None,
+            },
+        }
+    }
+
+    /// Handles a packet that the hop sent: a Data for this station is answered once its file and its number are durable.
+    pub fn hear(&mut self, packet: &[u8])
+        ensures { Handles F.state (data_of self.old.core (message_in (Some packet.now))) self.old self.new }
+    {
+        let Some(message) = message_of(packet) else {
+            return;
+        };
+        let Some((number, payload)) = taken_from(&mut self.core, message) else {
+            return;
+        };
+        let answer = self.outbox.take(number, payload);
+        let reply = reply_to(&mut self.core, number, answer);
+        self.replies.add(reply);
+    }
+
+    /// Writes the next packet for the hop at the front of a buffer, and returns its length in bytes, if one waits.
+    pub fn next_packet(&mut self, buffer: &mut [u8]) -> Option<usize>
+        requires room { MAX_MESSAGE ≤ length buffer.old }
+        ensures packet { option_map (λ count. take count buffer.new) result
+            ≡ option_map spelling (next_reply self.old.core self.old.replies) }
+        ensures after { self.new ≡ record self.old { replies = after_reply self.old.replies } }
+        // The files up to the number of a Custody are durable, and that number is.
+        ensures durable { IsDurable self.old.replies.custody (greatest_of self.old.outbox) }
+    {
+        let message = self.next_reply();
+        self.replies.remove_first();
+        match message {
+            Some(message) => write_reply(message, buffer),
+            None => None,
+        }
+    }
+
+    /// The message that is sent next.
+    fn next_reply(&self) -> Option<Message<&'static [u8]>>
+        ensures reply { option_map message_bytes result ≡ next_reply self.now.core self.now.replies }
+        ensures spelled { IfSome result (λ message. write_refusal (message_bytes message) ≡ None) }
+    {
+        let (from, to) = (self.own, self.station);
+        match (self.replies.refused, self.replies.custody) {
+            (Some((number, refusal)), _) => Some(Message::Refused {
+                from,
+                to,
+                number,
+                refusal,
+            }),
+            (None, Some(last)) => Some(Message::Custody { from, to, last }),
+            (None, None) => None,
+        }
+    }
+}
+
+/// The message in a packet, if there is one.
+fn message_of<'a>(packet: &'a [u8]) -> Option<Message<&'a [u8]>>
+    ensures { option_map message_bytes result ≡ message_in (Some packet.now) }
+{
+    match read_message(packet) {
+        Ok(message) => Some(message),
+        Err(_) => None,
+    }
+}
+
+/// The number and the payload of a Data for this station, if the message is one. It is answered before the next.
+fn taken_from<'a>(core: &mut Receiving, message: Message<&'a [u8]>) -> Option<(u64, &'a [u8])>
+    requires idle { core.old.pending ≡ None }
+    ensures found { option_map (λ taken. (taken.0, taken.1.now)) result
+        ≡ data_of core.old (Some (message_bytes message.entry)) }
+    ensures none { IfNone result (core.new ≡ core.old) }
+    ensures some { IfSome result (λ taken. core.new ≡ record core.old { pending = Some taken.0 }) }
+{
+    match message {
+        Message::Data {
+            number, payload, ..
+        } => match core.step(InEvent::Heard(message)) {
+            Some(_) => Some((number, payload)),
+            None => None,
+        },
+        Message::Custody { .. } | Message::Refused { .. } | Message::Heard { .. } => None,
+    }
+}
+
+/// The message to the hop after the Take of this number was answered, if there is one.
+fn reply_to<'a>(core: &mut Receiving, number: u64, answer: TakeAnswer) -> Option<Message<&'a [u8]>>
+    requires waits { core.old.pending ≡ Some number }
+    ensures core { core.new ≡ record core.old { pending = None } }
+    ensures reply { option_map message_bytes result ≡ reply_of (take_reply core.old number answer) }
+{
+    match core.step(InEvent::Answered(answer)) {
+        Some(InAction::Send(message)) => Some(message),
+        Some(InAction::Take { .. }) | None => None,
+    }
+}
+
+/// Writes a message that has a spelling at the front of a buffer, and returns its length in bytes.
+fn write_reply(message: Message<&[u8]>, buffer: &mut [u8]) -> Option<usize>
+    requires room { MAX_MESSAGE ≤ length buffer.old }
+    requires spelled { write_refusal (message_bytes message) ≡ None }
+    ensures { option_map (λ count. take count buffer.new) result ≡ Some (spelling (message_bytes message.entry)) }
+{
+    match write_message(message, buffer) {
+        Ok(count) => Some(count),
+        Err(_) => None,
+    }
+}
+
+impl Replies {
+    /// Removes the message that was sent.
+    fn remove_first(&mut self)
+        ensures { self.new ≡ after_reply self.old }
+    {
+        if self.refused.is_none() {
+            self.custody = None;
+        }
+        self.refused = None;
+    }
+
+    /// Adds a message, if there is one.
+    fn add(&mut self, message: Option<Message<&[u8]>>)
+        ensures { self.new ≡ with_reply self.old (option_map message_bytes message.entry) }
+    {
+        match message {
+            Some(Message::Custody { last, .. }) => self.custody = Some(last),
+            Some(Message::Refused {
+                number, refusal, ..
+            }) => self.refused = Some((number, refusal)),
+            Some(Message::Data { .. } | Message::Heard { .. }) | None => {}
+        }
+    }
+}
