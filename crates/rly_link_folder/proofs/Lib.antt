@@ -1,5 +1,11 @@
 mod FilesHandedOut
 mod Handed
+mod InboxLaws
 mod LawLemmas
 mod Made
+mod Moves
+mod Numbers
+mod Placed
+mod Removals
 mod Steps
+mod Writers

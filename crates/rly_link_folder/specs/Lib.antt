@@ -1,4 +1,7 @@
 pub mod Handing
+pub mod Inbox
+pub mod InboxCalls
+pub mod Incoming
 pub mod Outbox
 pub mod OutboxCalls
 pub mod Script
