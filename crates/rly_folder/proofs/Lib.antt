@@ -3,5 +3,5 @@ mod FaultCalls
 mod LawLemmas
 mod Listing
 mod MemCalls
-mod Names
+pub mod Names
 mod RecordLemmas

@@ -9,7 +9,7 @@ pub enum Area {
     New,
     /// The files of `sent/`, under the sequence numbers that the link gave them.
     Sent,
-    /// The files of `refused/` for whose destination the plan has no route. The numbers are those of `new/`.
+    /// The files of `refused/` for whose destination the plan has no route. The numbers are an order.
     NoRoute,
     /// Those that are longer than a payload of the spool.
     TooLong,

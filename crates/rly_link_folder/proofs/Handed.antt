@@ -42,7 +42,7 @@ module _ (P : Files → Type 0) where
   abbrev pub Keeps : (Files → Files) → Type 0
   Keeps change = (c : Files) → P c → P (change c)
 
-  may : (change : Files → Files) (I : Files → Type 0) → Keeps change → ((c : Files) → I c → P c) → (c : Files) → MayBeMade change I c → P c
+  pub may : (change : Files → Files) (I : Files → Type 0) → Keeps change → ((c : Files) → I c → P c) → (c : Files) → MayBeMade change I c → P c
   may change I keeps all c image = ⊎_elim (λ before. all c before) (λ made. subst P (sym made.2) (keeps made.0 (all made.0 made.1))) image
 
   after_call : (call : FolderCall) (contents : Contents) (I : Files → Type 0) → Keeps (files_after call contents) → Both contents I
@@ -65,7 +65,7 @@ module _ (P : Files → Type 0) where
   able true is = absurd (cc is)
 
   -- the station's own event, as far as it isn't declined
-  own_event : (call : FolderCall) (outcome : Outcome) (own : FolderEvent) (contents : Contents) (I : Files → Type 0) → IsOwn call outcome own
+  pub own_event : (call : FolderCall) (outcome : Outcome) (own : FolderEvent) (contents : Contents) (I : Files → Type 0) → IsOwn call outcome own
       → (is_declined call contents ≡ false → Keeps (files_after call contents)) → is_possible own contents ≡ true → Both contents I
       → Both (contents_after own contents) (images_after own contents I)
   own_event call Did own contents I is keeps possible both = let k = keeps (able _ (rw is at possible)) in

@@ -1,6 +1,12 @@
 mod FilesHandedOut
 mod Handed
+mod InboxLaws
 mod LawLemmas
 mod Made
+mod Moves
+mod Numbers
 mod Packets
+mod Placed
+mod Removals
 mod Steps
+mod Writers

@@ -5,7 +5,7 @@ use Rattle.std.specs.Prelude.{Err, is_err, is_ok, Ok, OnErr, Result}
 use Rattle.rly_folder.specs.FolderCalls.{are_possible, contents_at_end, Did, Faulted, FolderCall, FolderEvent, Follows, images_within, is_call, is_failed_call, is_sync_call}
 use Rattle.rly_folder.specs.FolderCalls.{IsOneCall, is_faulted, Leads, Makes, Outcome, outcome_if}
 use Rattle.rly_folder.specs.FolderModel.{Files, FolderState, IsSpent}
-use Rattle.rly_folder.proofs.Events.{contents-append, count-append, end_grows, end_joined, possible-append, within_grows, within_joined}
+use Rattle.rly_folder.proofs.Events.{contents-append, count-append, end_grows, end_joined, leads_nothing, possible-append, within_grows, within_joined}
 use Rattle.rly_link_folder.specs.OutboxCalls.{if_linked}
 use Rattle.rly_link_folder.specs.Script.{AreMade, MakesEach, Step}
 
@@ -59,6 +59,9 @@ module _ {D : Type 0} (state : D → FolderState) where
     leads = one.leads;
     made = ⊎_elim (λ made. inl (one.events, [], append_none one.events, made, (refl, refl))) (λ spent. absurd (cc (spent.1, sound))) one.made;
   }
+
+  pub nothing : {a : D} → MakesEach state [] true a a
+  nothing {a} = record { events = []; leads = leads_nothing (state a); made = (refl, refl) }
 
   pub fault : {a b : D} (call : FolderCall) (outcome : Outcome) (steps : List Step)
       → Makes state call Faulted a b → MakesEach state ((call, outcome) ∷ steps) false a b

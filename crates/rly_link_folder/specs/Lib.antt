@@ -1,5 +1,8 @@
 pub mod Handing
 pub mod HopNeighbour
+pub mod Inbox
+pub mod InboxCalls
+pub mod Incoming
 pub mod Outbox
 pub mod OutboxCalls
 pub mod Script

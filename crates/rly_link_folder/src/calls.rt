@@ -53,7 +53,7 @@ pub(crate) fn has_room<F: Folder>(folder: &mut F, most: u64) -> Result<bool, Fol
 }
 
 /// The last of these numbers, 0 if there is none.
-fn last_number(numbers: &[u64]) -> u64
+pub(crate) fn last_number(numbers: &[u64]) -> u64
     ensures { result ≡ get_or numbers.now (length numbers.now - 1) 0 }
 {
     match numbers.last() {
@@ -63,7 +63,7 @@ fn last_number(numbers: &[u64]) -> u64
 }
 
 /// Lists an area, and returns its greatest number, 0 if it has no file.
-fn greatest_in<F: Folder>(folder: &mut F, area: Area) -> Result<u64, FolderFault>
+pub(crate) fn greatest_in<F: Folder>(folder: &mut F, area: Area) -> Result<u64, FolderFault>
     ensures ok { IfOk result (λ greatest. Finds F.state area greatest folder.old folder.new) }
     ensures err { OnErr result (Makes F.state (ListNames area) Faulted folder.old folder.new) }
 {

@@ -1,17 +1,31 @@
-//! A folder that plays the neighbour station of a hop: the datagrams that the station sends to it
-//! become files. So far it has that outgoing half, `Outbox`; no crate uses it yet.
+//! A folder that plays the neighbour station: of a hop, whose datagrams become files (`Outbox`), and
+//! of a peer, whose datagrams are made of files (`Inbox`). No crate uses it yet.
 //!
-//! Of all Data only the next number is written: its file is durable under its number before a
-//! hidden name of no bytes says that it is, and that name is durable before its Custody
+//! Of all Data to an outbox only the next number is written: its file is durable under its number
+//! before a hidden name of no bytes says that it is, and that name is durable before its Custody
 //! (`specs/OutboxCalls.antt`). So a crash at any moment leaves a folder that opens to every number
 //! whose Custody was answered, and a reader may remove all files (`specs/Handing.antt`).
+//!
+//! A file of an inbox has its number durably before it is given, and is removed only once that
+//! number is in the station's custody (`specs/InboxCalls.antt`). So a crash at any moment leaves
+//! each file whose put ended under exactly one name (`specs/Incoming.antt`).
+//!
+//! `HopNeighbour` puts an outbox behind the receiving core: packets in, packets out
+//! (`specs/HopNeighbour.antt`).
 #![tactic(auto)]
 
+mod admission;
 mod calls;
 mod hop_neighbour;
+mod inbox;
+mod inbox_calls;
+mod inbox_laws;
 mod laws;
 mod outbox;
 
+pub use admission::Admission;
 pub use hop_neighbour::HopNeighbour;
+pub use inbox::{Entry, Inbox, NotOpen};
+pub use inbox_laws::{law_numbers, law_releases};
 pub use laws::{law_hands_out, law_lists, law_opens_to};
 pub use outbox::Outbox;

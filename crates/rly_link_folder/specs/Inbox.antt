@@ -1,0 +1,96 @@
+-- The state of an inbox in contracts, and what became of a file of `new/`.
+use Rattle.std.specs.Prelude.{◌≡◌, ◌⊎◌, ◌+◌, ◌≤◌, ◌<◌, ℕ, List, Option, None, Some}
+use Rattle.rly_folder.specs.declared.name.Area.{Area}
+use Rattle.rly_folder.specs.FolderModel.{FolderState}
+use Rattle.rly_folder.specs.Names.{name_of}
+use Rattle.rly_folder.specs.declared.name.Area.TheVariants.{New, Sent}
+use Rattle.rly_link_folder.specs.InboxCalls.{FailsToJoin, FailsToMove, FailsToRefuse, Joins, Moves, Reads, reason_of, Refuses}
+use Rattle.rly_link_folder.specs.declared.admission.Admission.{Admission}
+use Rattle.rly_folder.specs.FolderCalls.{Faulted, Makes, ReadFile}
+use Rattle.rly_link_folder.specs.declared.inbox_calls.Judged.{Judged}
+use Rattle.rly_link_folder.specs.declared.inbox_calls.Judged.TheVariants as judged
+use Rattle.rly_link_folder.specs.declared.inbox.Entry.{Entry}
+use Rattle.rly_link_folder.specs.declared.inbox.Entry.TheVariants.{Gone, Numbered, Refused}
+use Rattle.rly_link_folder.specs.declared.inbox.Inbox.{Inbox}
+use Rattle.rly_link_folder.specs.declared.inbox.NotOpen.{NotOpen}
+use Rattle.rly_link_folder.specs.declared.inbox.NotOpen.TheVariants.{Apart, Failed}
+
+abbrev pub inbox_folder : {F : Type 0} → Inbox F → F
+inbox_folder inbox = inbox.folder
+
+-- the station's last number
+abbrev pub custody_of : {F : Type 0} → Inbox F → ℕ
+custody_of inbox = inbox.custody
+
+-- the last number that a file has durably
+abbrev pub last_of : {F : Type 0} → Inbox F → ℕ
+last_of inbox = inbox.last
+
+abbrev pub routes_of : Admission → List ℕ
+routes_of rules = rules.routes.items
+
+abbrev pub longest_of : Admission → ℕ
+longest_of rules = rules.longest
+
+-- a file of `new/` was read, and a station with these rules refuses it for this reason, or for none
+pub record Judges {D : Type 0} (state : D → FolderState) (rules : Admission) (place : ℕ) (reason : Option Area) (old new : D)
+    : Type 0 where
+  pub found : List ℕ
+  pub reads : Reads state (name_of New place) (longest_of rules + 2) (Some found) old new
+  pub is_reason : reason ≡ reason_of (routes_of rules) (longest_of rules) found
+
+abbrev pub IsJudged : {D : Type 0} → (D → FolderState) → Admission → ℕ → Judged → D → D → Type 0
+IsJudged state rules place judged.Gone old new = Reads state (name_of New place) (longest_of rules + 2) None old new
+IsJudged state rules place judged.Fits old new = Judges state rules place None old new
+IsJudged state rules place (judged.Refused area) old new = Judges state rules place (Some area) old new
+
+-- the calls for a file of `new/` that the station takes: it gets the next number of `sent/`, unless it is gone by then
+pub record Numbers {D : Type 0} (state : D → FolderState) (rules : Admission) (last place : ℕ) (number : Option ℕ)
+    (old new : D) : Type 0 where
+  pub read : D
+  pub judges : Judges state rules place None old read
+  pub moves : Moves state (name_of New place) Sent last number read new
+
+-- and for one that it refuses for good
+pub record SetsAside {D : Type 0} (state : D → FolderState) (rules : Admission) (place : ℕ) (area : Area)
+    (number : Option ℕ) (old new : D) : Type 0 where
+  pub read : D
+  pub judges : Judges state rules place (Some area) old read
+  pub refuses : Refuses state (name_of New place) area number read new
+
+-- the calls for a file of `new/`, and what became of it
+abbrev pub Enters : {D : Type 0} → (D → FolderState) → Admission → ℕ → ℕ → Entry → D → D → Type 0
+Enters state rules last place (Numbered number) old new = Numbers state rules last place (Some number) old new
+Enters state rules last place (Refused area) old new =
+    (number : ℕ) × SetsAside state rules place area (Some number) old new
+Enters state rules last place Gone old new =
+    Reads state (name_of New place) (longest_of rules + 2) None old new
+    ⊎ Numbers state rules last place None old new
+    ⊎ ((area : Area) × SetsAside state rules place area None old new)
+
+-- a call for a file of `new/` failed
+pub data FailsToEnter {D : Type 0} (state : D → FolderState) (rules : Admission) (last place : ℕ) (old new : D) : Type 0 where
+  AtRead : Makes state (ReadFile (name_of New place)) Faulted old new → FailsToEnter state rules last place old new
+  AtNumber : (read : D) → Judges state rules place None old read → FailsToMove state (name_of New place) Sent last read new
+      → FailsToEnter state rules last place old new
+  AtRefusal : (read : D) (area : Area) → Judges state rules place (Some area) old read
+      → FailsToRefuse state (name_of New place) area read new → FailsToEnter state rules last place old new
+
+-- the last number after it
+abbrev pub last_after : ℕ → Entry → ℕ
+last_after last (Numbered number) = number
+last_after last (Refused area) = last
+last_after last Gone = last
+
+-- a number that a file has durably, and that isn't in the station's custody
+abbrev pub IsToGive : {F : Type 0} → Inbox F → ℕ → Type 0
+IsToGive inbox number = (custody_of inbox < number) × (number ≤ last_of inbox)
+
+-- a number that the station's custody may go on to
+abbrev pub IsToRelease : {F : Type 0} → Inbox F → ℕ → Type 0
+IsToRelease inbox custody = (custody_of inbox ≤ custody) × (custody ≤ last_of inbox)
+
+-- the calls of an opening that didn't open the folder
+abbrev pub IsNotOpen : {F : Type 0} → (F → FolderState) → ℕ → NotOpen F → F → Type 0
+IsNotOpen state custody (Failed left) folder = FailsToJoin state folder left
+IsNotOpen state custody (Apart left) folder = Joins state custody None folder left
