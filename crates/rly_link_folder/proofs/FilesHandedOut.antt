@@ -1,5 +1,5 @@
 -- The changes of an outbox and of readers keep the property of files handed out.
-use Rattle.std.proofs.Common.{[], arith, Bool, false, true, if◌then◌else◌, inl, inr, List, refl, subst, sym, ⊎_elim, ℕ, None, Some, Option, IsSome, is_some, ◌+◌, ◌≤◌, ◌<◌, ◌∷◌, ◌≡◌, ◌⊎◌, ◌∙◌}
+use Rattle.std.proofs.Common.{[], arith, Bool, false, true, if◌then◌else◌, inl, inr, List, refl, subst, sym, ⊎_elim, ℕ, None, Some, Option, IsSome, ◌+◌, ◌≤◌, ◌<◌, ◌≡◌, ◌⊎◌}
 use Rattle.std.proofs.lemmas.Bool.{cases_lt}
 use Rattle.std.proofs.lemmas.Bool.Decides.{nat_tests}
 use Rattle.std.specs.Prelude.{◌==◌}

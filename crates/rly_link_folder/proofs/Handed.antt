@@ -1,16 +1,16 @@
 -- The files of a folder over the events of its calls: a property that each change keeps.
-use Rattle.std.proofs.Common.{[], arith, Bool, false, true, if◌then◌else◌, inl, inr, List, refl, subst, sym, ⊎_elim, ℕ, None, Some, Option, IsSome, is_some, is_none, ◌++◌, ◌+◌, ◌≤◌, ◌<◌, ◌∷◌, ◌≡◌, ◌⊎◌, ◌∙◌}
+use Rattle.std.proofs.Common.{[], Bool, false, true, if◌then◌else◌, List, refl, subst, sym, ⊎_elim, ℕ, None, ◌++◌, ◌∷◌, ◌≡◌}
 use Rattle.std.proofs.lemmas.Bool.{and_parts}
 use Rattle.std.specs.List.{list_all}
-use Rattle.std.specs.Prelude.{◌==◌, ◌&&◌, ◌||◌, not, ⊤}
+use Rattle.std.specs.Prelude.{◌&&◌, not}
 use Rattle.rly_folder.specs.FolderCalls.{are_possible, contents_after, contents_at_end, Declined, Did, Done, Failed, Faulted, files_after, FolderCall, FolderEvent}
 use Rattle.rly_folder.specs.FolderCalls.{images_after, images_after_call, images_at_end, images_within, is_declined, is_other, is_possible, IsOneCall, IsOwn, Link, ListNames, MayBeMade, Other, Outcome}
 use Rattle.rly_folder.specs.FolderCalls.{ReadFile, Refrained, Remove, Rename, Sync, WriteHidden}
 use Rattle.rly_folder.specs.FolderModel.{Contents, Files, with_file}
 use Rattle.rly_folder.specs.Names.{name_of}
-use Rattle.rly_folder.specs.declared.name.Area.TheVariants.{Kept, Out}
-use Rattle.rly_folder.proofs.Events.{contents-append, end_joined, possible-append, within_end, within_joined}
-use Rattle.rly_link_folder.specs.Handing.{IsReader, OnlyReaders}
+use Rattle.rly_folder.specs.declared.name.Area.TheVariants.{Out}
+use Rattle.rly_folder.proofs.Events.{contents-append, end_joined, possible-append, within_joined}
+use Rattle.rly_link_folder.specs.Handing.{OnlyReaders}
 use Rattle.rly_link_folder.specs.Script.{AreMade, Step}
 
 -- ---- readers

@@ -1,16 +1,15 @@
 -- The laws of an inbox: from the events of the calls to the folder.
-use Rattle.std.proofs.Common.{[], ap, arith, Bool, false, true, inl, inr, List, refl, subst, sym, ⊎_elim, ℕ, None, Some, Option, ◌++◌, ◌+◌, ◌≤◌, ◌<◌, ◌∷◌, ◌≡◌, ◌⊎◌, ◌∙◌}
+use Rattle.std.proofs.Common.{[], ap, arith, Bool, false, true, inl, inr, List, refl, ⊎_elim, ℕ, None, Some, ◌++◌, ◌+◌, ◌≤◌, ◌∷◌, ◌≡◌, ◌⊎◌, ◌∙◌}
 use Rattle.std.specs.Prelude.{nat_lt}
 use Rattle.std.proofs.lemmas.Bool.Decides.{nat_tests}
-use Rattle.rly_folder.specs.FolderCalls.{are_possible, contents_at_end, Did, FolderEvent, images_at_end, is_declined, Leads, Remove, Sync}
+use Rattle.rly_folder.specs.FolderCalls.{FolderEvent, is_declined, Leads, Remove}
 use Rattle.rly_folder.specs.FolderModel.{Consistent, Contents, Files, FolderState, IsSpent, LeavesOnly, with_file}
 use Rattle.rly_folder.specs.Names.{name_of}
 use Rattle.rly_folder.specs.declared.name.Area.TheVariants.{New, Sent}
 use Rattle.rly_folder.specs.declared.name.Name.{Name}
 use Rattle.rly_link_folder.specs.InboxCalls.{AreRemovals, IsRemoval, RemovesTo, renaming}
-use Rattle.rly_link_folder.specs.Incoming.{Fits, Frees, Keeps, Ledger, MayLack, Moved, OnlyWriters, placed, Stores}
-use Rattle.rly_link_folder.specs.OutboxCalls.{if_linked}
-use Rattle.rly_link_folder.specs.Script.{AreMade, MakesEach, Step}
+use Rattle.rly_link_folder.specs.Incoming.{Frees, Keeps, Ledger, Moved, OnlyWriters, placed, Stores}
+use Rattle.rly_link_folder.specs.Script.{MakesEach, Step}
 use Rattle.rly_link_folder.proofs.Handed.{Over, Reaches}
 use Rattle.rly_link_folder.proofs.Moves.{moves_over}
 use Rattle.rly_link_folder.proofs.Placed.{fits_next, free_number, is_moved, other_place, put_keeps, released, removed, stay_apart}

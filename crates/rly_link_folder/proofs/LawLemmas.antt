@@ -1,8 +1,8 @@
 -- The laws: from the events of the calls to the folder.
-use Rattle.std.proofs.Common.{[], arith, Bool, false, true, if◌then◌else◌, inl, inr, List, refl, subst, sym, ⊎_elim, ℕ, None, Some, Option, IsSome, ◌++◌, ◌+◌, ◌≤◌, ◌<◌, ◌∷◌, ◌≡◌, ◌⊎◌, ◌∙◌}
+use Rattle.std.proofs.Common.{[], arith, Bool, false, true, if◌then◌else◌, inl, inr, List, refl, ⊎_elim, ℕ, None, ◌+◌, ◌≤◌, ◌<◌, ◌≡◌}
 use Rattle.std.proofs.lemmas.Bool.{cases_lt}
 use Rattle.rly_folder.specs.FolderCalls.{are_possible, contents_at_end, FolderEvent, images_at_end, Leads, ListNames, Makes, Outcome}
-use Rattle.rly_folder.specs.FolderModel.{Consistent, Contents, Files, FolderState, LeavesOnly, with_file}
+use Rattle.rly_folder.specs.FolderModel.{Consistent, Files, FolderState, LeavesOnly, with_file}
 use Rattle.rly_folder.specs.Names.{name_of}
 use Rattle.rly_folder.specs.declared.name.Area.{Area}
 use Rattle.rly_folder.specs.declared.name.Area.TheVariants.{Kept, Out}

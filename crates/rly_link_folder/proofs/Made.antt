@@ -1,9 +1,9 @@
 -- Lists of calls: one after another, and cut off at one that failed.
-use Rattle.std.proofs.Common.{if◌then◌else◌, [], arith, Bool, false, true, inl, inr, List, refl, subst, sym, ⊎_elim, ℕ, ◌++◌, ◌+◌, ◌∷◌, ◌≡◌, ◌≤◌, ◌⊎◌, ◌∙◌}
+use Rattle.std.proofs.Common.{[], arith, Bool, false, true, inl, inr, List, refl, subst, sym, ⊎_elim, ◌++◌, ◌∷◌, ◌≡◌, ◌∙◌}
 use Rattle.std.proofs.lemmas.Bool.{and_from}
 use Rattle.std.specs.Prelude.{Err, is_err, is_ok, Ok, OnErr, Result}
-use Rattle.rly_folder.specs.FolderCalls.{are_possible, contents_at_end, Did, Faulted, FolderCall, FolderEvent, Follows, images_within, is_call, is_failed_call, is_sync_call}
-use Rattle.rly_folder.specs.FolderCalls.{IsOneCall, is_faulted, Leads, Makes, Outcome, outcome_if}
+use Rattle.rly_folder.specs.FolderCalls.{Did, Faulted, FolderCall, FolderEvent, Follows, images_within, is_call, is_failed_call, is_sync_call}
+use Rattle.rly_folder.specs.FolderCalls.{is_faulted, Leads, Makes, Outcome, outcome_if}
 use Rattle.rly_folder.specs.FolderModel.{Files, FolderState, IsSpent}
 use Rattle.rly_folder.proofs.Events.{contents-append, count-append, end_grows, end_joined, leads_nothing, possible-append, within_grows, within_joined}
 use Rattle.rly_link_folder.specs.OutboxCalls.{if_linked}

@@ -1,16 +1,16 @@
 -- A file gets another name, durably: from one property of files to another, over either of both.
-use Rattle.std.proofs.Common.{[], Bool, false, true, inl, inr, List, refl, subst, sym, ⊎_elim, ℕ, None, Some, Option, ◌++◌, ◌∷◌, ◌≡◌, ◌⊎◌, ◌∙◌}
+use Rattle.std.proofs.Common.{[], Bool, false, true, inl, inr, List, refl, subst, sym, ⊎_elim, ℕ, None, Some, Option, ◌++◌, ◌∷◌, ◌≡◌, ◌⊎◌}
 use Rattle.std.proofs.lemmas.Bool.{and_parts}
 use Rattle.std.specs.Prelude.{is_none, not}
-use Rattle.rly_folder.specs.FolderCalls.{are_possible, contents_after, contents_at_end, Did, Faulted, files_after, FolderEvent, images_after, images_at_end, is_declined, IsOneCall, Rename, Sync}
+use Rattle.rly_folder.specs.FolderCalls.{are_possible, contents_at_end, Did, Faulted, files_after, FolderEvent, images_after, images_at_end, is_declined, IsOneCall, Rename, Sync}
 use Rattle.rly_folder.specs.FolderModel.{Contents, Files, with_file}
 use Rattle.rly_folder.specs.declared.name.Name.{Name}
 use Rattle.rly_folder.proofs.Events.{contents-append, end_joined, possible-append}
 use Rattle.rly_link_folder.specs.InboxCalls.{renaming}
 use Rattle.rly_link_folder.specs.Incoming.{Ledger, OnlyWriters}
 use Rattle.rly_link_folder.specs.Script.{AreMade}
-use Rattle.rly_link_folder.proofs.Handed.{Both, Keeps, Over, over_append, over_nil, Reaches}
-use Rattle.rly_link_folder.proofs.Writers.{at_call, before_call, can_be, one_call, PutKeeps, seen_before, writers_left, writers_right}
+use Rattle.rly_link_folder.proofs.Handed.{Both, over_append, over_nil, Reaches}
+use Rattle.rly_link_folder.proofs.Writers.{before_call, can_be, one_call, PutKeeps, seen_before, writers_left, writers_right}
 
 a_file : (o : Option (List ℕ)) → is_none o ≡ false → (file : List ℕ) × (o ≡ Some file)
 a_file (Some file) able = (file, refl)

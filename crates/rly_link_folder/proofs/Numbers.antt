@@ -1,5 +1,5 @@
 -- The numbers of `sent/`, and whether they go on from the station's.
-use Rattle.std.proofs.Common.{[], arith, Bool, false, true, inl, inr, List, refl, subst, sym, ⊎_elim, ℕ, suc, zero, length, slice_index, get_or, ◌+◌, ◌-◌, ◌≤◌, ◌<◌, ◌∷◌, ◌≡◌, ◌⊎◌, ◌∙◌}
+use Rattle.std.proofs.Common.{[], arith, Bool, false, true, inl, inr, List, refl, sym, ⊎_elim, ℕ, suc, zero, length, slice_index, ◌+◌, ◌-◌, ◌≤◌, ◌<◌, ◌≡◌, ◌⊎◌, ◌∙◌}
 use Rattle.std.proofs.lemmas.Bool.{cases_lt}
 use Rattle.std.proofs.lemmas.Bool.Decides.{nat_tests}
 use Rattle.std.proofs.lemmas.Grind.{get_or_default_zero}

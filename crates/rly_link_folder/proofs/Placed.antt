@@ -1,11 +1,10 @@
 -- The files that came in, under their names, before a change and after it.
-use Rattle.std.proofs.Common.{[], ap, arith, Bool, false, true, if◌then◌else◌, inl, inr, List, refl, subst, sym, ⊎_elim, ℕ, None, Some, Option, IsSome, ◌+◌, ◌≤◌, ◌<◌, ◌≡◌, ◌⊎◌, ◌∙◌}
+use Rattle.std.proofs.Common.{ap, arith, Bool, false, true, if◌then◌else◌, inl, inr, List, refl, subst, sym, ⊎_elim, ℕ, None, Some, Option, IsSome, ◌+◌, ◌≤◌, ◌≡◌, ◌⊎◌, ◌∙◌}
 use Rattle.std.proofs.lemmas.Bool.{cases_eq, cases_lt}
 use Rattle.std.proofs.lemmas.Bool.Decides.{nat_tests}
 use Rattle.std.specs.Prelude.{◌==◌}
 use Rattle.rly_folder.specs.FolderModel.{Files, with_file}
 use Rattle.rly_folder.specs.Names.{is_same_name, name_of}
-use Rattle.rly_folder.specs.declared.name.Area.{Area}
 use Rattle.rly_folder.specs.declared.name.Area.TheVariants.{New, Sent}
 use Rattle.rly_folder.specs.declared.name.Name.{Name}
 use Rattle.rly_folder.proofs.Names.{same_name, same_self}

@@ -1,5 +1,5 @@
 -- Removals: one list of numbers after another, and cut off at a call that failed.
-use Rattle.std.proofs.Common.{[], arith, Bool, false, true, inl, inr, List, refl, sym, ℕ, ◌++◌, ◌+◌, ◌∷◌, ◌≡◌, ◌<◌, ◌∙◌, length, take, drop, get_or}
+use Rattle.std.proofs.Common.{[], arith, Bool, false, true, List, refl, ℕ, ◌++◌, ◌+◌, ◌∷◌, ◌≡◌, ◌<◌, length, take, drop, get_or}
 use Rattle.std.proofs.lemmas.List.{take-append-drop, take_more}
 use Rattle.std.proofs.lemmas.Bool.Decides.{nat_tests}
 use Rattle.std.specs.Prelude.{nat_lt}
@@ -9,7 +9,7 @@ use Rattle.rly_folder.specs.Names.{name_of}
 use Rattle.rly_folder.specs.declared.name.Area.TheVariants.{Sent}
 use Rattle.rly_link_folder.specs.InboxCalls.{AreRemovals, IsRemoval, Removes, RemovesTo}
 use Rattle.rly_link_folder.specs.OutboxCalls.{if_linked}
-use Rattle.rly_link_folder.specs.Script.{MakesEach, Step}
+use Rattle.rly_link_folder.specs.Script.{Step}
 use Rattle.rly_link_folder.proofs.Made.{cut, fault, joined, last, more, nothing, sound_link}
 
 more_removed : (below : Bool) (n : ℕ) (steps rest more : List Step) → IsRemoval below n steps rest → IsRemoval below n (steps ++ more) (rest ++ more)

@@ -1,19 +1,19 @@
 -- The calls of an outbox, one after another, over a property of files that each of their changes keeps.
-use Rattle.std.proofs.Common.{[], arith, Bool, false, true, if◌then◌else◌, inl, inr, List, refl, subst, sym, ⊎_elim, ℕ, None, Some, Option, IsSome, is_some, is_none, ◌++◌, ◌+◌, ◌∷◌, ◌≡◌, ◌⊎◌, ◌∙◌}
+use Rattle.std.proofs.Common.{[], Bool, false, true, inl, inr, List, refl, subst, sym, ℕ, None, Some, Option, IsSome, is_some, is_none, ◌++◌, ◌∷◌, ◌≡◌, ◌∙◌}
 use Rattle.std.proofs.lemmas.Bool.{and_parts}
 use Rattle.std.specs.List.{list_all}
 use Rattle.std.specs.Prelude.{◌||◌, not}
-use Rattle.rly_folder.specs.FolderCalls.{are_possible, contents_after, contents_at_end, Declined, Did, Done, files_after, FolderCall, FolderEvent}
-use Rattle.rly_folder.specs.FolderCalls.{images_after, images_at_end, is_declined, is_other, is_possible, IsOneCall, IsOwn, Link, Outcome, Refrained, Rename, Sync, WriteHidden}
+use Rattle.rly_folder.specs.FolderCalls.{are_possible, contents_after, contents_at_end, Did, files_after, FolderCall, FolderEvent}
+use Rattle.rly_folder.specs.FolderCalls.{images_after, images_at_end, is_declined, is_other, is_possible, IsOneCall, Link, Outcome, Refrained, Rename, Sync, WriteHidden}
 use Rattle.rly_folder.specs.FolderModel.{Contents, Files, with_file}
 use Rattle.rly_folder.specs.Names.{name_of}
 use Rattle.rly_folder.specs.declared.name.Area.TheVariants.{Kept, Out}
 use Rattle.rly_folder.specs.declared.name.Name.{Name}
 use Rattle.rly_folder.proofs.Events.{contents-append, end_joined, possible-append}
 use Rattle.rly_link_folder.specs.Handing.{OnlyReaders}
-use Rattle.rly_link_folder.specs.OutboxCalls.{if_linked, IsKeeping, making, moving, putting}
+use Rattle.rly_link_folder.specs.OutboxCalls.{if_linked, IsKeeping, putting}
 use Rattle.rly_link_folder.specs.Script.{AreMade, Step}
-use Rattle.rly_link_folder.proofs.Handed.{Both, first_call, hidden_others, Keeps, Over, over_nil, others, Reaches, readers_left}
+use Rattle.rly_link_folder.proofs.Handed.{Both, first_call, hidden_others, Keeps, over_nil, others, Reaches, readers_left}
 
 wrote : (bytes : List ℕ) (first : List FolderEvent) (contents : Contents) → IsOneCall (WriteHidden bytes) Did first → (contents_at_end first contents).hidden ≡ Some bytes
 wrote bytes first contents made = rw (made.events_are, contents-append made.others (made.own ∷ []) contents, made.is_own) refl

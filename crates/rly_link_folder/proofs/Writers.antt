@@ -1,15 +1,15 @@
 -- The files of a folder over the events of its calls, while other programs put files.
-use Rattle.std.proofs.Common.{[], arith, Bool, false, true, if◌then◌else◌, inl, inr, List, refl, subst, sym, ⊎_elim, ℕ, None, Some, Option, ◌++◌, ◌∷◌, ◌≡◌, ◌⊎◌, ◌∙◌}
+use Rattle.std.proofs.Common.{[], Bool, false, true, List, ⊎_elim, ℕ, Some, ◌++◌, ◌∷◌, ◌≡◌}
 use Rattle.std.proofs.lemmas.Bool.{and_parts}
 use Rattle.std.specs.List.{list_all}
 use Rattle.std.specs.Prelude.{⊤}
-use Rattle.rly_folder.specs.FolderCalls.{are_possible, contents_after, contents_at_end, Declined, Did, Done, Failed, Faulted, files_after, FolderCall, FolderEvent}
-use Rattle.rly_folder.specs.FolderCalls.{images_after, images_at_end, images_within, is_declined, is_other, is_possible, IsOneCall, Other, Outcome, Sync}
+use Rattle.rly_folder.specs.FolderCalls.{are_possible, contents_after, contents_at_end, Declined, Done, Failed, Faulted, files_after, FolderCall, FolderEvent}
+use Rattle.rly_folder.specs.FolderCalls.{images_after, images_at_end, is_declined, is_other, is_possible, IsOneCall, Other, Outcome}
 use Rattle.rly_folder.specs.FolderModel.{Contents, Files, with_file}
 use Rattle.rly_folder.specs.Names.{name_of}
 use Rattle.rly_folder.specs.declared.name.Area.TheVariants.{New}
-use Rattle.rly_folder.proofs.Events.{contents-append, end_joined, possible-append}
-use Rattle.rly_link_folder.specs.Incoming.{IsWriter, Ledger, OnlyWriters}
+use Rattle.rly_folder.proofs.Events.{possible-append}
+use Rattle.rly_link_folder.specs.Incoming.{Ledger, OnlyWriters}
 use Rattle.rly_link_folder.specs.Script.{AreMade, Step}
 use Rattle.rly_link_folder.proofs.Handed.{Both, Keeps, may, Over, over_append, over_nil, own_event}
 

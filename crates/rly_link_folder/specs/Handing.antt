@@ -1,5 +1,5 @@
 -- The files of a folder while datagrams are handed out: of what a station sees, and of each crash image.
-use Rattle.std.specs.Prelude.{◌≡◌, ◌⊎◌, ◌≤◌, ◌<◌, ◌+◌, ℕ, Bool, true, List, [], ◌∷◌, Option, None, Some, IsSome, ⊤}
+use Rattle.std.specs.Prelude.{◌≡◌, ◌⊎◌, ◌≤◌, ◌<◌, ◌+◌, ℕ, Bool, true, List, [], ◌∷◌, None, Some, IsSome, ⊤}
 use Rattle.rly_folder.specs.FolderCalls.{Declined, Done, Failed, FolderEvent, Other}
 use Rattle.rly_folder.specs.FolderModel.{Files, FolderState, LeavesOnly}
 use Rattle.rly_folder.specs.Names.{name_of}

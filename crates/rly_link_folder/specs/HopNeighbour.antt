@@ -1,5 +1,5 @@
 -- The neighbour station of a hop, played by a folder: its answers to packets.
-use Rattle.std.specs.Prelude.{◌≡◌, ◌≢◌, ◌≤◌, ◌+◌, ◌&&◌, ◌==◌, ℕ, Bool, true, false, if◌then◌else◌, List, Option, None, Some, is_some, ⊤}
+use Rattle.std.specs.Prelude.{◌≡◌, ◌≢◌, ◌≤◌, ◌+◌, ◌&&◌, ◌==◌, ℕ, if◌then◌else◌, List, Option, None, Some, is_some, ⊤}
 use Rattle.rly_folder.specs.FolderModel.{FolderState}
 use Rattle.rly_hop.specs.declared.message.Message.{Message}
 use Rattle.rly_hop.specs.declared.message.Message.TheVariants as message

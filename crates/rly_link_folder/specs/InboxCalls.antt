@@ -1,12 +1,12 @@
 -- The calls that give files numbers, read them, and remove them, in their order.
-use Rattle.std.specs.Prelude.{◌≡◌, ◌⊎◌, ◌==◌, ◌≤◌, ◌<◌, ◌+◌, ◌*◌, ◌-◌, ◌^◌, ℕ, Bool, true, false, not, if◌then◌else◌, nat_lt, nat_le, List, [], ◌∷◌, ◌++◌}
+use Rattle.std.specs.Prelude.{◌≡◌, ◌⊎◌, ◌==◌, ◌≤◌, ◌<◌, ◌+◌, ◌*◌, ◌-◌, ◌^◌, ℕ, Bool, true, false, not, if◌then◌else◌, nat_lt, List, [], ◌∷◌, ◌++◌}
 use Rattle.std.specs.Prelude.{Option, None, Some, Contains, length, option_map, take}
 use Rattle.std.specs.List.{list_any}
-use Rattle.rly_folder.specs.FolderCalls.{Did, Faulted, FolderCall, ListNames, Makes, ReadFile, Refrained, Remove, Rename, Sync}
+use Rattle.rly_folder.specs.FolderCalls.{Did, Faulted, ListNames, Makes, ReadFile, Refrained, Remove, Rename, Sync}
 use Rattle.rly_folder.specs.FolderModel.{FolderState, IsListing}
 use Rattle.rly_folder.specs.Names.{name_of}
 use Rattle.rly_folder.specs.declared.name.Area.{Area}
-use Rattle.rly_folder.specs.declared.name.Area.TheVariants.{New, NoRoute, Sent, TooLong, TooShort}
+use Rattle.rly_folder.specs.declared.name.Area.TheVariants.{NoRoute, Sent, TooLong, TooShort}
 use Rattle.rly_folder.specs.declared.name.Name.{Name}
 use Rattle.rly_link_folder.specs.OutboxCalls.{Finds, if_linked}
 use Rattle.rly_link_folder.specs.Script.{MakesEach, Step}

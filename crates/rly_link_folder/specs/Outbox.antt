@@ -1,6 +1,5 @@
 -- The state of an outbox in contracts, and the answers to a Data.
-use Rattle.std.specs.Prelude.{◌≡◌, ◌⊎◌, ◌==◌, ◌+◌, ℕ, Bool, true, false, if◌then◌else◌, List}
-use Rattle.rly_core.specs.declared.refusal.Refusal.{Refusal}
+use Rattle.std.specs.Prelude.{◌≡◌, ◌⊎◌, ℕ, true, false, List}
 use Rattle.rly_core.specs.declared.refusal.Refusal.TheVariants.{Full}
 use Rattle.rly_folder.specs.FolderCalls.{Faulted, ListNames, Makes}
 use Rattle.rly_folder.specs.FolderModel.{FolderState}

@@ -1,5 +1,5 @@
 -- The calls of a folder as one list, with how each returned.
-use Rattle.std.specs.Prelude.{◌≡◌, ◌⊎◌, ℕ, Bool, true, false, List, [], ◌∷◌, ◌++◌}
+use Rattle.std.specs.Prelude.{◌≡◌, ◌⊎◌, Bool, true, false, List, [], ◌∷◌, ◌++◌}
 use Rattle.rly_folder.specs.FolderCalls.{Faulted, FolderCall, FolderEvent, IsOneCall, Leads, Outcome}
 use Rattle.rly_folder.specs.FolderModel.{FolderState, IsSpent}
 

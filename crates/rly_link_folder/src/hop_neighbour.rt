@@ -90,6 +90,7 @@ impl<F: Folder> HopNeighbour<F> {
     /// Writes the next packet for the hop at the front of a buffer, and returns its length in bytes, if one waits.
     pub fn next_packet(&mut self, buffer: &mut [u8]) -> Option<usize>
         requires room { MAX_MESSAGE ≤ length buffer.old }
+        ensures bound { IfSome result (λ count. count ≤ length buffer.new) }
         ensures packet { option_map (λ count. take count buffer.new) result
             ≡ option_map spelling (next_reply self.old.core self.old.replies) }
         ensures after { self.new ≡ record self.old { replies = after_reply self.old.replies } }
@@ -143,7 +144,9 @@ fn taken_from<'a>(core: &mut Receiving, message: Message<&'a [u8]>) -> Option<(u
 {
     match message {
         Message::Data {
-            number, payload, ..
+            number,
+            payload,
+            ..
         } => match core.step(InEvent::Heard(message)) {
             Some(_) => Some((number, payload)),
             None => None,
@@ -168,7 +171,9 @@ fn reply_to<'a>(core: &mut Receiving, number: u64, answer: TakeAnswer) -> Option
 fn write_reply(message: Message<&[u8]>, buffer: &mut [u8]) -> Option<usize>
     requires room { MAX_MESSAGE ≤ length buffer.old }
     requires spelled { write_refusal (message_bytes message) ≡ None }
-    ensures { option_map (λ count. take count buffer.new) result ≡ Some (spelling (message_bytes message.entry)) }
+    ensures bound { IfSome result (λ count. count ≤ length buffer.new) }
+    ensures written { option_map (λ count. take count buffer.new) result
+        ≡ Some (spelling (message_bytes message.entry)) }
 {
     match write_message(message, buffer) {
         Ok(count) => Some(count),
@@ -193,9 +198,13 @@ impl Replies {
     {
         match message {
             Some(Message::Custody { last, .. }) => self.custody = Some(last),
-            Some(Message::Refused {
-                number, refusal, ..
-            }) => self.refused = Some((number, refusal)),
+            Some(
+                Message::Refused {
+                    number,
+                    refusal,
+                    ..
+                },
+            ) => self.refused = Some((number, refusal)),
             Some(Message::Data { .. } | Message::Heard { .. }) | None => {}
         }
     }

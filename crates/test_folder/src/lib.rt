@@ -22,6 +22,8 @@ mod expect;
 #[cfg(test)]
 mod fault_folder;
 #[cfg(test)]
+mod hop_neighbour;
+#[cfg(test)]
 mod inbox;
 #[cfg(test)]
 mod mem;

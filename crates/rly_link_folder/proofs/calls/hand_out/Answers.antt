@@ -1,6 +1,6 @@
-use Rattle.std.proofs.Common.{[], inl, refl}
+use Rattle.std.proofs.Common.{inl, refl}
 use Rattle.rly_link_folder.proofs.Made.{cut, joined, not_ok}
-use Rattle.rly_link_folder.specs.OutboxCalls.{HandsOut, moving}
+use Rattle.rly_link_folder.specs.OutboxCalls.{moving}
 use Rattle.rly_link_folder.proofs.calls.hand_out.Goals as goal
 
 pub returns-in_err-put : goal.returns-in_err-put

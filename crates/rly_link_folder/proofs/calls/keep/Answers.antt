@@ -1,7 +1,7 @@
-use Rattle.std.proofs.Common.{[], inl, inr, is_ok, refl}
+use Rattle.std.proofs.Common.{inl, inr, is_ok, refl}
 use Rattle.rly_folder.specs.FolderCalls.{Did, Refrained, Rename, Sync}
 use Rattle.rly_link_folder.proofs.Made.{ends, fault, more}
-use Rattle.rly_link_folder.specs.OutboxCalls.{Keeps, making, moving}
+use Rattle.rly_link_folder.specs.OutboxCalls.{making, moving}
 use Rattle.rly_link_folder.proofs.calls.keep.Goals as goal
 
 pub returns-in-Ok-true : goal.returns-in-Ok-true

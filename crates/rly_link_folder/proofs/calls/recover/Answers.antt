@@ -1,4 +1,4 @@
-use Rattle.std.proofs.Common.{arith, ◌<◌}
+use Rattle.std.proofs.Common.{arith}
 use Rattle.rly_link_folder.proofs.Made.{on_err}
 use Rattle.rly_link_folder.specs.OutboxCalls.{AtFirstList, AtKeeping, AtSecondList}
 use Rattle.rly_link_folder.proofs.calls.recover.Goals as goal

@@ -16,10 +16,15 @@ returns g c =
     let takes = c.take-answer.ensures in
     let core : c.reply_to-reply.new.core ≡ old.core = c.reply_to-reply.ensures.core ∙ ap (λ (k : Receiver). record k { pending = None }) waits ∙ (λ i. record old.core { pending = (sym (ap (λ (k : Receiver). k.pending) c.self.invariant.0)) i }) in
     let reply = c.reply_to-reply.ensures.reply ∙ ap (λ k. reply_of (take_reply k number c.take-answer.result)) waits ∙ ap reply_of (reply_same old.core (Some number) number c.take-answer.result) in
-    rw (← c.self.view_is) (rw taken (c.take-answer.result, record {
-      next = takes.next;
-      other = takes.other;
-      untouched = takes.untouched;
-      greatest = takes.greatest;
-      most = takes.most;
-    }, core, c.add.ensures ∙ ap (with_reply old.replies) reply))
+    rw (← c.self.view_is) (rw taken (
+      c.take-answer.result,
+      record {
+        next = takes.next;
+        other = takes.other;
+        untouched = takes.untouched;
+        greatest = takes.greatest;
+        most = takes.most;
+      },
+      core,
+      c.add.ensures ∙ ap (with_reply old.replies) reply,
+    ))
