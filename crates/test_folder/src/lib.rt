@@ -29,6 +29,8 @@ mod inbox;
 mod mem;
 #[cfg(test)]
 mod outbox;
+#[cfg(test)]
+mod puts;
 
 #[cfg(test)]
 use rly_folder::{Area, Folder};

@@ -1,0 +1,4 @@
+mod Calls
+mod FolderLemmas
+mod LawLemmas
+mod Lists

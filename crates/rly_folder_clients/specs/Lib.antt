@@ -1,0 +1,4 @@
+pub mod Holding
+pub mod Putting
+pub mod Runs
+pub mod Writers
