@@ -1,5 +1,5 @@
 -- The calls that put a file into a folder.
-use Rattle.std.specs.Prelude.{◌≡◌, ◌⊎◌, ◌≤◌, ◌+◌, ◌-◌, ◌^◌, ℕ, zero, suc, Bool, true, false, List, [], ◌∷◌, get_or, length}
+use Rattle.std.specs.Prelude.{◌≡◌, ◌⊎◌, ◌≤◌, ◌<◌, ◌+◌, ◌-◌, ◌^◌, ℕ, zero, suc, Bool, true, false, List, [], ◌∷◌, get_or, length}
 use Rattle.rly_folder.specs.FolderCalls.{Did, Faulted, Link, ListNames, Makes, Outcome, Refrained, Sync, WriteHidden, outcome_if}
 use Rattle.rly_folder.specs.FolderModel.{FolderState, IsListing}
 use Rattle.rly_folder.specs.Names.{name_of}
@@ -44,6 +44,10 @@ pub record Puts {D : Type 0} (state : D → FolderState) (bytes : List ℕ) (num
   pub lists : Lists state numbers old listed
   pub names : Names state bytes (number_after numbers) more Did listed linked
   pub syncs : Makes state Sync (outcome_if durable) linked new
+
+-- fewer new files than this were listed
+abbrev pub HadRoom : {D : Type 0} → (D → FolderState) → (most : ℕ) → D → Type 0
+HadRoom {D} state most old = (numbers : List ℕ) × (listed : D) × Lists state numbers old listed × (length numbers < most)
 
 -- a put of which a call failed
 pub data StopsPut {D : Type 0} (state : D → FolderState) (bytes : List ℕ) (old new : D) : Type 0 where

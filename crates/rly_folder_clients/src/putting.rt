@@ -1,7 +1,7 @@
 // Puts a file into a folder.
 ghost use Rattle.std.specs.Prelude.{◌≡◌, ◌≤◌, ◌+◌, ◌^◌, ℕ, IfErr, IfOk, IfSome, None, true};
 ghost use Rattle.rly_folder.specs.FolderCalls.{Did};
-ghost use Rattle.rly_folder_clients.specs.Putting.{FailsToLink, FailsToName, FailsToPut, Links, Names, Puts};
+ghost use Rattle.rly_folder_clients.specs.Putting.{FailsToLink, FailsToName, FailsToPut, HadRoom, Links, Names, Puts};
 ghost use Rattle.rly_folder_clients.specs.Putting.{number_after};
 
 use rly_folder::{Area, Folder, Name};
@@ -26,6 +26,7 @@ const TRIES: u32 = 1_000;
 /// the greatest one. Refuses if `most` new files wait.
 pub fn put<F: Folder>(folder: &mut F, bytes: &[u8], most: u64) -> Result<u64, PutFault>
     ensures puts { IfOk result (λ number. Puts F.state bytes.now number true folder.old folder.new) }
+    ensures room { IfOk result (λ _. HadRoom F.state most folder.old) }
     ensures fails { IfErr result (λ fault. FailsToPut F.state bytes.now most fault folder.old folder.new) }
 {
     let Ok(numbers) = folder.list(Area::New) else {

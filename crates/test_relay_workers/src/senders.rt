@@ -139,13 +139,13 @@ const BATCHES: [Case<'static>; 5] = [
             (40, [21, 10, ANY, ANY], [60, 10, 0]),
         ],
     ),
-    // The eleventh turn receives the custody of the tenth, two turns after it was sent, and eight turns after the first
-    // was. Ten were heard in these eight turns: twenty may be on the way, and in each turn 20 / 8 of them go out. After
-    // two turns five do: five Picks are submitted beside the Release, and from then on five Picks and their Fetches
-    // alternate, up to twenty.
+    // Each turn takes a millisecond. The eleventh receives the custody of the tenth, two turns after it was sent, and
+    // eight turns after the first was. Ten were heard in these eight turns: twenty may be on the way, and in each turn
+    // 20 / 8 of them go out. After two turns five do: five Picks are submitted beside the Release, and from then on five
+    // Picks and their Fetches alternate, up to twenty.
     (
         "twice as many as were covered may be on the way after a round trip, and go out one after the other",
-        [70, 64, 1_000, 1, 0, 0],
+        [70, 64, 1_000, 1_000, 0, 0],
         &[(10, OF_9, &[10])],
         &[(
             0,
