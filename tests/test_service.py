@@ -28,7 +28,7 @@ NAMESPACES = ["unshare", "--fork", "--kill-child", "--pid", "--mount", "--uts", 
 
 
 def may_run():
-    """Whether this machine has a systemd that may run beside the test."""
+    """Whether this machine has a systemd that may have namespaces of its own."""
     if not os.path.exists(SYSTEMD) or shutil.which("unshare") is None:
         return False
     return subprocess.run([*NAMESPACES, "mount", "--make-rprivate", "/"], capture_output=True).returncode == 0
@@ -62,17 +62,28 @@ class Services(Rows):
             return keeper.getsockname()[1]
 
     def serve(self):
-        """Starts systemd with the unit, whose program, files and user alone are the test's."""
-        place = f"[Unit]\nDefaultDependencies=no\n[Service]\nExecStart=\nExecStart={RLY} serve {self.path('device.rly')} "
-        place += f"{self.path('plan.toml')}\nDynamicUser=no\nUser=root\nPrivateTmp=no\nReadWritePaths={self.folder}\n"
-        place += f"StandardError=file:{self.path('errors')}\n"
-        self.write("place.conf", place + "CapabilityBoundingSet=~\nPrivateDevices=no\nProtectHome=no\n", 0o644)
+        """Starts systemd with the unit, once it has started another program under the same restrictions."""
+        self.start_unit(f"/bin/touch {self.path('started')}", "Restart=no\n").kill()
+        if not os.path.exists(self.path("started")):
+            self.skipTest("this systemd starts no program under the unit's restrictions")
+        self.start_unit(f"{RLY} serve {self.path('device.rly')} {self.path('plan.toml')}")
+
+    def start_unit(self, command, more=""):
+        """Starts systemd with the unit, whose program, files and user alone are the test's. Of a trial it waits for the file."""
+        place = f"[Unit]\nDefaultDependencies=no\n[Service]\nExecStart=\nExecStart={command}\nDynamicUser=no\nUser=root\n"
+        place += f"PrivateTmp=no\nReadWritePaths={self.folder}\nStandardError=file:{self.path('errors')}\n"
+        place += f"CapabilityBoundingSet=~\nPrivateDevices=no\nProtectHome=no\n{more}"
+        self.write("place.conf", place, 0o644)
         self.write("try.target", "[Unit]\nDefaultDependencies=no\nWants=rly.service\n", 0o644)
         self.write("rly.service", self.unit, 0o644)
         with open(self.path("log"), "wb") as log:
             run = subprocess.Popen([*NAMESPACES, "sh", "-c", START, "sh", self.folder], stdout=log, stderr=log)
         self.addCleanup(run.wait)
         self.addCleanup(run.kill)
+        until = time.monotonic() + AGAIN
+        while more and not os.path.exists(self.path("started")) and time.monotonic() < until:
+            time.sleep(0.05)
+        return run
 
     def is_answered(self):
         """Whether the station answers a Data with number 0 at once."""
@@ -90,7 +101,7 @@ class Services(Rows):
         until = time.monotonic() + within
         while not self.is_answered():
             if time.monotonic() > until:
-                self.fail(self.read("errors").decode()[-2_000:])
+                self.fail(self.read("errors").decode()[-2_000:] if os.path.exists(self.path("errors")) else "it wasn't started")
 
     def stations(self):
         """The processes that serve this test's device."""
