@@ -3,6 +3,7 @@ use Rattle.std.specs.Prelude.{ℕ, ◌≡◌, ◌⊎◌, List, [], ◌++◌, len
 use Rattle.std.specs.Prelude.{Bool, true, false, Option, Some, None}
 use Rattle.std.specs.Global.{Vec}
 use Rattle.crossbeam_channel.specs.Claims.{Pass}
+use Rattle.rly_core.specs.Bounds.{IsIn}
 use Rattle.rly_machine.specs.declared.call.Answer.{Answer}
 use Rattle.rly_machine.specs.declared.call.Call.{Call}
 use Rattle.rly_machine.specs.declared.call.SeatId.{SeatId}
@@ -13,6 +14,7 @@ use Rattle.rly_line.specs.declared.replies.ReplyView.{ReplyView}
 use Rattle.rly_line.specs.declared.submission.LineView.{LineView}
 use Rattle.rly_line.specs.Batches.{AnswersView, BatchView, calls_in_batch}
 use Rattle.rly_line.specs.Replies.{ExtendsHistory, ReplyId, entries_of}
+use Rattle.rly_line.specs.Seats.{Caller, WaitingCaller, after_put}
 use Rattle.rly_line.specs.Submission.{IsNext, LineId}
 
 -- ---- the submission queue
@@ -132,14 +134,24 @@ IsHeard v (Some given) w =
 
 -- ---- a seat
 
--- the two ends belong to one seat; it counts its calls; and while it is open all of them were answered, and it
--- listens
+-- the two ends belong to one seat; it counts its calls; and while it is open it listens
 pub record IsSeated (seat : SeatId) (p : Putter) (h : Hearer) (calls : ℕ) (shut : Bool) : Type 0 where
   pub puts : p.seat ≡ seat.0
   pub hears : h.seat ≡ seat.0
   pub count : calls ≡ length p.put
-  pub answered : shut ≡ false → length (entries_of seat.0 h.known) ≡ length p.put
   pub listens : shut ≡ false → h.deaf ≡ false
+
+-- as many calls of a seat were answered as it submitted
+abbrev pub AreAllAnswered : Caller → Type 0
+AreAllAnswered c = length (entries_of c.seat.0 c.known) ≡ length c.put
+
+-- a seat that waits for the answers to this many asks
+pub record IsWaiting (w : WaitingCaller) (count : ℕ) (now : Caller) : Type 0 where
+  pub still_open : w.before.shut ≡ false
+  pub answered : AreAllAnswered w.before
+  pub some : IsIn 1 64 (length w.asks)
+  pub as_many : count ≡ length w.asks
+  pub submitted : now ≡ after_put w.before w.asks
 
 -- the lists of a batch have room for 64 each, and for no more
 abbrev pub HasBatchRoom : Vec Ask → Vec Answer → Type 0
@@ -148,3 +160,8 @@ HasBatchRoom asks answers = (vec_capacity asks ≡ 64) × (vec_capacity answers 
 -- and they are empty
 abbrev pub AreEmpty : Vec Ask → Vec Answer → Type 0
 AreEmpty asks answers = (asks.items ≡ []) × (answers.items ≡ []) × HasBatchRoom asks answers
+
+-- an open seat between its batches
+pub record IsIdle (now : Caller) (asks : Vec Ask) (answers : Vec Answer) : Type 0 where
+  pub answered : AreAllAnswered now
+  pub lists : AreEmpty asks answers

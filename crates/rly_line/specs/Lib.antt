@@ -4,5 +4,6 @@ pub mod Replies
 pub mod GhostHistory
 pub mod Seats
 pub mod HelpersEnds
+pub mod TakenAnswers
 pub mod EndViews
 pub mod ResponderView

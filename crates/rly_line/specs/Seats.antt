@@ -79,6 +79,15 @@ pub record IsAnsweredWith (before : Caller) (ask : Ask) (answer : Answer) (after
 abbrev pub next_calls : Caller → List Ask → List Call
 next_calls c asks = calls_after c.seat (length c.put) asks
 
+-- a seat after it submitted these asks, whose answers it does not know
+abbrev pub after_put : Caller → List Ask → Caller
+after_put c asks = record c { put = c.put ++ next_calls c asks }
+
+-- the model of a seat that waits: the seat before it submitted asks, and these asks
+pub record WaitingCaller : Type 0 where
+  pub before : Caller
+  pub asks : List Ask
+
 -- a seat after asks submitted together were answered, given the seat before
 pub record AreAnsweredWith (before : Caller) (asks : List Ask) (answers : List Answer) (after : Caller) : Type 0 where
   pub of : after.of ≡ before.of

@@ -3,7 +3,8 @@
 //! their own (`specs/Replies.antt`). One thread answers, with a `Responder` over a `LineEnd`. The
 //! history that each seat knows is a prefix of one legal history of all calls; the bytes of a Fetch
 //! are outside of that (`docs/CLAIMS.md`). Callers: `rly_flush` by `Responder`, `rly_threads` and
-//! above by `Seat::call_all`.
+//! above by `Seat::call_all`. One thread can also put the batches of several seats (`Seat::put`)
+//! and take the answers of each when they are there (`WaitingSeat`).
 #![tactic(auto)]
 
 mod batch;
@@ -19,6 +20,7 @@ mod seat;
 mod seat_ends;
 mod setup;
 mod submission;
+mod waiting_seat;
 
 pub use crate::batch::{Answers, Batch};
 pub use crate::call_error::{BatchError, CallError};
@@ -30,3 +32,4 @@ pub use crate::line_end::LineEnd;
 pub use crate::responder::Responder;
 pub use crate::seat::Seat;
 pub use crate::setup::make;
+pub use crate::waiting_seat::{Taken, WaitingSeat};

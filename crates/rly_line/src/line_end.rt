@@ -118,6 +118,7 @@ impl LineEnd {
         ensures told { TellTheSame result.lines self.lines }
     {
         let LineEnd { calls, mut replies } = self;
+        // First, so that a seat which takes its last answers later has its next batch refused.
         let calls = calls.close();
         close_all(rt, &mut replies);
         ClosedEnd::new(calls, replies)

@@ -1,6 +1,7 @@
 //! The queue of one seat's answers, batch by batch.
 
 ghost use Rattle.std.specs.Prelude.{◌≡◌, ℕ, ◌∷◌, [], None, Some, false, length, true, IfNone, IfSome, IfOk, MatchBool};
+ghost use Rattle.std.specs.Prelude.{MatchOption};
 ghost use Rattle.crossbeam_channel.specs.Claims.{view, IsSeatAt};
 ghost use Rattle.crossbeam_channel.specs.Ends.{sends_on, receives_on};
 ghost use Rattle.rly_line.specs.EndViews.{new_reply_end, with_gone};
@@ -10,7 +11,7 @@ ghost use Rattle.rly_line.specs.Replies.{IsPrefixOf, MayReport};
 use crate::batch::Answers;
 use crate::ghost_history::{GhostHistory, HasState};
 use crossbeam_channel::protocol::{Join, Lesson, Outcome, Protocol, Split};
-use crossbeam_channel::{Pass, RuledReceiver, RuledSender, bounded_with};
+use crossbeam_channel::{Pass, RuledReceiver, RuledSender, TryRecvError, bounded_with};
 use rly_machine::{Answer, Call, Machine, Payload};
 use std::alloc::{AllocError, Global};
 use std::collections::LinkedList;
@@ -244,15 +245,13 @@ impl ReplyEnd {
         put
     }
 
-    /// Closes the queue. Has no effect if the seat was dropped.
+    /// Closes the queue, without waiting. Has no effect if the seat was dropped, or did not take its last answers:
+    /// then it has no batch that waits for others.
     pub fn close<R: Wait>(&mut self, rt: &R)
         ensures { with_gone self.new ≡ with_gone self.old }
     {
         if !self.gone {
-            self.gone = self
-                .line
-                .send_as::<Closes, R>(rt, &mut self.pass, None)
-                .is_err();
+            let _closed = self.line.try_send_as::<Closes, R>(rt, &mut self.pass, None);
         }
     }
 
@@ -315,6 +314,27 @@ impl HearingEnd {
                 if self.is_deaf { None } else { Some(answers) }
             }
             Ok(None) | Err(_) => None,
+        }
+    }
+
+    /// Takes a batch of `count` answers if it is there. `Some(None)`: none is there, and no more come, or the other
+    /// end was dropped; or the number of answers was wrong, which adds no knowledge, and the end stops listening.
+    pub fn try_hear<R: Wait>(&mut self, rt: &R, count: usize) -> Option<Option<Answers>>
+        requires { self.old.deaf ≡ false }
+        ensures seat { (self.new.of ≡ self.old.of) × (self.new.seat ≡ self.old.seat) }
+        ensures not_yet { IfNone result (self.new ≡ self.old) }
+        ensures found { IfSome result (λ found. MatchOption found
+            (self.new ≡ record self.old { deaf = self.new.deaf })
+            (λ given. (length given.answers ≡ count) × (self.new.deaf ≡ false)
+            × Teaches self.old.seat self.old.base self.new.base self.old.known given.answers self.new.known)) }
+    {
+        match self.line.try_recv_as::<Takes, R>(rt, &mut self.pass) {
+            Ok(Some(answers)) => {
+                self.is_deaf = answers.len() != count;
+                Some(if self.is_deaf { None } else { Some(answers) })
+            }
+            Ok(None) | Err(TryRecvError::Disconnected) => Some(None),
+            Err(TryRecvError::Empty) => None,
         }
     }
 }

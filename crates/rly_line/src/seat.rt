@@ -2,21 +2,24 @@ ghost use Rattle.std.specs.Prelude.{◌≡◌, ◌+◌, ◌++◌, ◌^◌, ◌<�
 ghost use Rattle.std.specs.Prelude.{IfOk, OnOk, length};
 ghost use Rattle.rly_core.specs.Bounds.{IsIn};
 ghost use Rattle.rly_line.specs.declared.call_error.BatchError.TheVariants.{Closed};
-ghost use Rattle.rly_line.specs.HelpersEnds.{new_hearer};
+ghost use Rattle.rly_line.specs.HelpersEnds.{AreAllAnswered, new_hearer};
 ghost use Rattle.rly_line.specs.Seats.{AreAnsweredWith, AreUnanswered, IsAnsweredWith, IsNotPut, IsUnanswered};
-ghost use Rattle.rly_line.specs.Seats.{new_caller};
+ghost use Rattle.rly_line.specs.Seats.{MayPutNoMore, new_caller};
 ghost use Rattle.rly_line.specs.Submission.{IsBeginning};
 
+use crate::batch::Answers;
 use crate::call_error::{BatchError, CallError};
 use crate::left_seat::LeftSeat;
 use crate::replies::HearingEnd;
 use crate::seat_ends::SeatEnds;
 use crate::submission::{SubmitEnd, TakeEnd};
+use crate::waiting_seat::WaitingSeat;
 use rly_core::limits;
 use rly_machine::{Answer, Ask, SeatId};
 use std::alloc::{AllocError, Global};
 use std::marker::Model;
 use std::mem;
+use std::snapshot::Snapshot;
 use std::sync::Wait;
 
 /// Maximum number of asks in a batch.
@@ -34,14 +37,14 @@ pub struct Seat {
 
 impl Model for Seat {
     ghost use Rattle.std.specs.Prelude.{◌≡◌, false};
-    ghost use Rattle.rly_line.specs.HelpersEnds.{AreEmpty};
+    ghost use Rattle.rly_line.specs.HelpersEnds.{IsIdle};
     ghost use Rattle.rly_line.specs.Seats.{Caller};
 
     ghost Value = { Caller };
 
     ghost view = { λ s. s.ends };
 
-    ghost invariant = { λ s. s.ends.shut ≡ false → AreEmpty s.asks s.answers };
+    ghost invariant = { λ s. s.ends.shut ≡ false → IsIdle s.ends s.asks s.answers };
 }
 
 impl Seat {
@@ -65,6 +68,44 @@ impl Seat {
             asks,
             answers,
         })
+    }
+
+    /// The seat at these ends after its last asks were answered, in the memory of these answers, which it moves into
+    /// an empty list with room for them.
+    pub(crate) fn answered(
+        alloc: Global,
+        ends: SeatEnds,
+        given: Answers,
+        answers: &mut Vec<Answer>,
+    ) -> Seat
+        requires all { AreAllAnswered ends }
+        requires empty { answers.old.items ≡ [] }
+        requires room { length given.answers ≤ vec_capacity answers.old }
+        ensures seat { result ≡ ends }
+        ensures answers { answers.new.items ≡ given.answers }
+        ensures capacity { vec_capacity answers.new ≡ vec_capacity answers.old }
+    {
+        let (asks, mut given) = given.into_lists();
+        move_all(&mut given, answers);
+        Seat {
+            alloc,
+            ends,
+            asks,
+            answers: given,
+        }
+    }
+
+    /// The seat at these ends, which is shut.
+    pub(crate) fn shut(alloc: Global, ends: SeatEnds) -> Seat
+        requires { ends.shut ≡ true }
+        ensures { result ≡ ends }
+    {
+        Seat {
+            alloc,
+            ends,
+            asks: Vec::new(alloc),
+            answers: Vec::new(alloc),
+        }
     }
 
     /// The calls received are a prefix of those that it submitted.
@@ -190,6 +231,45 @@ impl Seat {
                 Err(BatchError::Closed)
             }
             Err(None) => Err(BatchError::Lost),
+        }
+    }
+
+    /// Submits all of these together, and returns the seat that waits for their answers. Waits only while the queue is
+    /// full, and takes no memory. `Err`: none was submitted, and they stay in the list; the queue refused them, or the
+    /// seat is shut, or would make more than 2^52 calls.
+    pub fn put<R: Wait>(self, rt: &R, asks: &mut Vec<Ask>) -> Result<WaitingSeat, Seat>
+        requires count { IsIn 1 64 (length asks.old.items) }
+        ensures ok { IfOk result (λ waiting. waiting ≡ record { before = self; asks = asks.old.items }) }
+        ensures none_left { OnOk result (asks.new.items ≡ []) }
+        ensures err { IfErr result (λ after. AreUnanswered self asks.old.items Closed asks.new.items after) }
+        ensures shut { MayPutNoMore self (length asks.old.items) → result ≡ Err self }
+        ensures capacity { vec_capacity asks.new ≡ vec_capacity asks.old }
+    {
+        let count = asks.len();
+        if !self.ends.may_put(count) {
+            return Err(self);
+        }
+        let submitted = Snapshot::of(&*asks);
+        let Seat {
+            alloc,
+            mut ends,
+            asks: mut own_asks,
+            answers: own_answers,
+        } = self;
+        let before = Snapshot::of(&ends);
+        move_all(asks, &mut own_asks);
+        match ends.put(rt, ends.batch(own_asks, own_answers)) {
+            Ok(()) => Ok(WaitingSeat::new(alloc, ends, count, before, submitted)),
+            Err(back) => {
+                let (mut own_asks, own_answers) = back.into_lists();
+                move_all(&mut own_asks, asks);
+                Err(Seat {
+                    alloc,
+                    ends,
+                    asks: own_asks,
+                    answers: own_answers,
+                })
+            }
         }
     }
 }

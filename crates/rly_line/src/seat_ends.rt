@@ -1,8 +1,9 @@
-ghost use Rattle.std.specs.Prelude.{◌≡◌, ◌+◌, ◌^◌, ◌≤◌, ◌++◌, ◌↔◌, [], false, true, length, IfErr, IfOk, MatchOption};
+ghost use Rattle.std.specs.Prelude.{◌≡◌, ◌+◌, ◌^◌, ◌≤◌, ◌++◌, ◌↔◌, [], false, true, length, IfErr, IfOk};
+ghost use Rattle.std.specs.Prelude.{IfNone, IfSome, MatchOption, OnOk};
 ghost use Rattle.rly_core.specs.Bounds.{IsIn};
 ghost use Rattle.rly_line.specs.Batches.{calls_in_batch};
-ghost use Rattle.rly_line.specs.HelpersEnds.{HasBatchRoom, new_hearer};
-ghost use Rattle.rly_line.specs.Seats.{AreAnsweredWith, new_caller};
+ghost use Rattle.rly_line.specs.HelpersEnds.{AreAllAnswered, HasBatchRoom, IsWaiting, new_hearer};
+ghost use Rattle.rly_line.specs.Seats.{AreAnsweredWith, WaitingCaller, new_caller};
 ghost use Rattle.rly_line.specs.Submission.{IsBeginning};
 
 use crate::batch::{Answers, Batch};
@@ -91,6 +92,7 @@ impl SeatEnds {
     /// answers come, nothing is handed back, and the seat is shut.
     pub fn exchange<R: Wait>(&mut self, rt: &R, batch: Batch) -> Result<Answers, Option<Batch>>
         requires open { self.old.shut ≡ false }
+        requires answered { AreAllAnswered self.old }
         requires whose { batch.seat ≡ self.old.seat }
         requires before { batch.before ≡ length self.old.put }
         requires numbers { length self.old.put + length batch.asks ≤ 2 ^ 52 }
@@ -98,17 +100,64 @@ impl SeatEnds {
         ensures err { IfErr result (λ back. MatchOption back
             (self.new ≡ record self.old { put = self.old.put ++ calls_in_batch batch; shut = true })
             (λ same. (same ≡ batch) × (self.new ≡ record self.old { refused = true }))) }
+        ensures answered { self.new.shut ≡ false → AreAllAnswered self.new }
     {
         let count = batch.len();
-        if let Err(back) = self.line.put(rt, batch) {
+        if let Err(back) = self.put(rt, batch) {
             return Err(Some(back));
         }
+        match self.hear(rt, count) {
+            Some(answers) => Ok(answers),
+            None => Err(None),
+        }
+    }
+
+    /// Submits the seat's next batch. Hands it back if the queue refuses it.
+    pub fn put<R: Wait>(&mut self, rt: &R, batch: Batch) -> Result<(), Batch>
+        requires open { self.old.shut ≡ false }
+        requires whose { batch.seat ≡ self.old.seat }
+        requires before { batch.before ≡ length self.old.put }
+        requires numbers { length self.old.put + length batch.asks ≤ 2 ^ 52 }
+        ensures put { OnOk result (self.new ≡ record self.old { put = self.old.put ++ calls_in_batch batch }) }
+        ensures back { IfErr result (λ back. (back ≡ batch) × (self.new ≡ record self.old { refused = true })) }
+    {
+        let count = batch.len();
+        self.line.put(rt, batch)?;
         self.calls += count as u64;
+        Ok(())
+    }
+
+    /// Waits for the answers to the `count` asks that were submitted last. `None`: no answers come, and the seat is
+    /// shut.
+    pub fn hear<R: Wait>(&mut self, rt: &R, count: usize) -> Option<Answers>
+        requires open { self.old.shut ≡ false }
+        ensures answered { IfSome result
+            (λ given. (w : WaitingCaller) → IsWaiting w count self.old
+            → AreAnsweredWith w.before w.asks given.answers self.new × AreAllAnswered self.new) }
+        ensures lost { IfNone result (self.new ≡ record self.old { shut = true }) }
+    {
         let Some(answers) = self.replies.hear(rt, count) else {
             self.is_shut = true;
-            return Err(None);
+            return None;
         };
-        Ok(answers)
+        Some(answers)
+    }
+
+    /// Takes the answers to the `count` asks that were submitted last, if they are there. `Some(None)`: no answers
+    /// come, and the seat is shut.
+    pub fn try_hear<R: Wait>(&mut self, rt: &R, count: usize) -> Option<Option<Answers>>
+        requires open { self.old.shut ≡ false }
+        ensures not_yet { IfNone result (self.new ≡ self.old) }
+        ensures found { IfSome result (λ found. MatchOption found (self.new ≡ record self.old { shut = true })
+            (λ given. (w : WaitingCaller) → IsWaiting w count self.old
+            → AreAnsweredWith w.before w.asks given.answers self.new × AreAllAnswered self.new)) }
+    {
+        let found = self.replies.try_hear(rt, count)?;
+        let Some(answers) = found else {
+            self.is_shut = true;
+            return Some(None);
+        };
+        Some(Some(answers))
     }
 
     /// Tells the queue that the seat submits no more.

@@ -30,3 +30,5 @@ mod pauses;
 mod rounds;
 #[cfg(test)]
 mod served;
+#[cfg(test)]
+mod waits;
