@@ -286,6 +286,35 @@ class Pauses(Stations):
         self.assertEqual(device, "device seq 4 rounds 2 segments 0")
 
 
+class Counts(Stations):
+    def last_lines(self, run, wanted):
+        """The lines of the first report whose lines of peer 1 and of hop 1 have these words, one each."""
+        limit = time.monotonic() + SECONDS
+        while time.monotonic() < limit:
+            report = self.answer(run).decode()
+            lines = [last_of(report, "peer 1 "), last_of(report, "hop 1 ")]
+            if all(word in line for word, line in zip(wanted, lines)):
+                return lines
+        return None
+
+    def test_packets_without_a_right_tag_are_counted(self):
+        """Each link with a key counts its own, and a report tells them. Such a packet is nothing else to it."""
+        self.make_small("device")
+        self.write("link.key", KEY)
+        key = 'key = "link.key"\n'
+        self.write("plan", PLAN.format(*self.ports).replace("[[hop]]", key + "[[hop]]") + key)
+        run = self.start("serve", "device", "plan", "--report=1")
+        while not run.stderr.readline().startswith(b"rly: serving"):
+            pass
+        with socket.socket(socket.AF_INET, socket.SOCK_DGRAM) as end:
+            for port, count in [(self.ports[0], 3), (self.ports[2], 2)]:
+                for _packet in range(count):
+                    end.sendto(DATA, ("127.0.0.1", port))
+        peer, hop = self.last_lines(run, [" wrong 3 ", " wrong 2 "])
+        self.assertEqual(peer, "peer 1 heard 0 custody 0 refused 0 malformed 0 wrong 3 repeats 0 heards 0")
+        self.assertTrue(hop.endswith(" wrong 2 heard 0 custody 0 refused 0 malformed 0 repeats 0 heards 0"), hop)
+
+
 class Starts(Stations):
     def test_a_relay_needs_a_plan_and_a_device(self):
         """The plan is looked at first, then the file, then the device in it."""
