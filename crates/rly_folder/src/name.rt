@@ -19,6 +19,8 @@ pub enum Area {
     Out,
     /// Hidden files of no bytes: their greatest number is the last sequence number handed out.
     Kept,
+    /// Hidden files of no bytes of the reader: their greatest number is that of the last file that it handed on.
+    Printed,
 }
 
 /// The name of a file: its area and a number, 20 digits in a real folder.
@@ -40,6 +42,7 @@ impl Area {
             Area::TooShort => 4,
             Area::Out => 5,
             Area::Kept => 6,
+            Area::Printed => 7,
         }
     }
 }

@@ -9,7 +9,7 @@ use Rattle.rly_folder.specs.Names.{is_same_name, name_of}
 use Rattle.rly_folder.specs.declared.name.Area.TheVariants.{New}
 use Rattle.rly_folder.specs.declared.name.Name.{Name}
 use Rattle.rly_folder_clients.specs.Holding.{HasOnly, HasOnlyOr, Holds, Stays}
-use Rattle.rly_folder_clients.specs.Putting.{AtLink, AtList, AtSync, AtWrite, Names, number_after, Puts, StopsPut, taken, tries}
+use Rattle.rly_folder_clients.specs.Putting.{AtLink, AtList, AtSync, AtWrite, Names, first_number, Puts, StopsPut, taken, tries}
 use Rattle.rly_folder_clients.specs.Runs.{gives_only, OthersGive, OthersGiveIn, Runs, Step}
 use Rattle.rly_folder_clients.specs.Writers.{leaves, OthersInNames, OthersInPut, OthersInStop}
 use Rattle.rly_folder_clients.proofs.FolderLemmas.{settles}
@@ -116,9 +116,9 @@ module _ (given : Name → Option (List ℕ) → Bool) where
         (call_stays (HasOnlyOr given to bytes) given (or_gives to bytes) state consistent (Link to) outcome names.links kept.1
         (λ now same p may able. link_keeps to bytes now.hidden (same ∙ hidden)) up.holds)
 
-    pub put_once : (bytes : List ℕ) (number : ℕ) (durable : Bool) {a b : D} (puts : Puts state bytes number durable a b) → OthersInPut given puts
+    pub put_once : (bytes : List ℕ) (now number : ℕ) (durable : Bool) {a b : D} (puts : Puts state bytes now number durable a b) → OthersInPut given puts
         → Holds (HasOnly given) (state a) → Stays (HasOnlyOr given (name_of New number) bytes) (state a) (state b)
-    put_once bytes number durable {a} {b} puts kept holds =
+    put_once bytes now number durable {a} {b} puts kept holds =
         let to = name_of New number in
         let listed = quiet (ListNames New) Did (λ now c. refl) puts.lists.makes kept.0 holds in
         let named = names_once bytes _ puts.more Did puts.names kept.1 listed.holds in
@@ -127,19 +127,19 @@ module _ (given : Name → Option (List ℕ) → Bool) where
         stays_joined (HasOnlyOr given to bytes) _ _ _ up
         (stays_joined (HasOnlyOr given to bytes) _ _ _ named_so (quiet_or to bytes Sync (outcome_if durable) (λ now c. refl) puts.syncs kept.2 named_so.holds))
 
-    pub stop_once : (bytes : List ℕ) {a b : D} (stops : StopsPut state bytes a b) → OthersInStop given stops → Holds (HasOnly given) (state a)
+    pub stop_once : (bytes : List ℕ) (now : ℕ) {a b : D} (stops : StopsPut state bytes now a b) → OthersInStop given stops → Holds (HasOnly given) (state a)
         → (number : ℕ) × Stays (HasOnlyOr given (name_of New number) bytes) (state a) (state b)
-    stop_once bytes {a} {b} (AtList lists) kept holds =
+    stop_once bytes now {a} {b} (AtList lists) kept holds =
         (0, stays_more (HasOnly given) (HasOnlyOr given (name_of New 0) bytes) _ _ (or_more (name_of New 0) bytes) (quiet (ListNames New) Faulted (λ now c. refl) lists kept holds))
-    stop_once bytes {a} {b} (AtWrite numbers listed lists writes) kept holds =
+    stop_once bytes now {a} {b} (AtWrite numbers listed lists writes) kept holds =
         let one = quiet (ListNames New) Did (λ now c. refl) lists.makes kept.0 holds in
         let two = quiet (WriteHidden bytes) Faulted (λ now c. refl) writes kept.1 one.holds in
         (0, stays_more (HasOnly given) (HasOnlyOr given (name_of New 0) bytes) _ _ (or_more (name_of New 0) bytes) (stays_joined (HasOnly given) _ _ _ one two))
-    stop_once bytes {a} {b} (AtLink numbers more listed lists names) kept holds =
+    stop_once bytes now {a} {b} (AtLink numbers more listed lists names) kept holds =
         let one = quiet (ListNames New) Did (λ now c. refl) lists.makes kept.0 holds in
         let named = names_once bytes _ more Faulted names kept.1 one.holds in
         (_, stays_joined _ _ _ _ (stays_more (HasOnly given) _ _ _ (or_more _ bytes) one) named)
-    stop_once bytes {a} {b} (AtSync number puts) kept holds = (number, put_once bytes number false puts kept holds)
+    stop_once bytes now {a} {b} (AtSync number puts) kept holds = (number, put_once bytes now number false puts kept holds)
 
 -- ---- durable
 
@@ -159,15 +159,15 @@ file_left to (Declined call ∷ events) contents kept are = absurd (cc are)
 file_left to (Failed call done hidden ∷ events) contents kept are = absurd (cc are)
 
 pub put_durable : {D : Type 0} (state : D → FolderState) → ((folder : D) → (state folder).honest → Consistent (state folder))
-    → (bytes : List ℕ) (number : ℕ) {a b : D} (puts : Puts state bytes number true a b) → OthersGive (leaves (name_of New number)) puts.syncs.events
+    → (bytes : List ℕ) (now number : ℕ) {a b : D} (puts : Puts state bytes now number true a b) → OthersGive (leaves (name_of New number)) puts.syncs.events
     → (state a).honest → Settled (state b) × ((state b).seen.files (name_of New number) ≡ Some bytes)
-put_durable state consistent bytes number {a} {b} puts kept h =
+put_durable state consistent bytes now number {a} {b} puts kept h =
     let to = name_of New number in
     let h1 = puts.lists.makes.leads.honest.1 h in
-    let h2 = runs_honest state (tries bytes (number_after puts.numbers) puts.more) true puts.listed puts.names.tried puts.names.refused h1 in
+    let h2 = runs_honest state (tries bytes (first_number now puts.numbers) puts.more) true puts.listed puts.names.tried puts.names.refused h1 in
     let h3 = puts.names.links.leads.honest.1 h2 in
-    let hidden = tries_hidden state bytes (number_after puts.numbers) puts.more puts.listed puts.names.tried puts.names.refused h1 in
-    let place : ℕ = number_after puts.numbers + puts.more in
+    let hidden = tries_hidden state bytes (first_number now puts.numbers) puts.more puts.listed puts.names.tried puts.names.refused h1 in
+    let place : ℕ = first_number now puts.numbers + puts.more in
     let link = did state h2 (Link (name_of New place)) puts.names.links in
     let now = contents_at_end link.others (state puts.names.tried).seen in
     let named : (state puts.linked).seen.files (name_of New place) ≡ Some bytes = rw link.seen (own (name_of New place) now.hidden (now.files (name_of New place)) ∙ link.hidden ∙ hidden) in

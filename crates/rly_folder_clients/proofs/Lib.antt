@@ -1,4 +1,9 @@
 mod Calls
 mod FolderLemmas
 mod LawLemmas
+mod GettingLists
 mod Lists
+mod ReaderLaws
+mod ReaderRuns
+mod ReaderSteps
+mod UnreadFiles

@@ -1,5 +1,5 @@
 -- The calls that put a file into a folder.
-use Rattle.std.specs.Prelude.{◌≡◌, ◌⊎◌, ◌≤◌, ◌<◌, ◌+◌, ◌-◌, ◌^◌, ℕ, zero, suc, Bool, true, false, List, [], ◌∷◌, get_or, length}
+use Rattle.std.specs.Prelude.{◌≡◌, ◌⊎◌, ◌≤◌, ◌<◌, ◌+◌, ◌-◌, ◌^◌, ℕ, zero, suc, Bool, true, false, List, [], ◌∷◌, get_or, length, max}
 use Rattle.rly_folder.specs.FolderCalls.{Did, Faulted, Link, ListNames, Makes, Outcome, Refrained, Sync, WriteHidden, outcome_if}
 use Rattle.rly_folder.specs.FolderModel.{FolderState, IsListing}
 use Rattle.rly_folder.specs.Names.{name_of}
@@ -33,16 +33,20 @@ pub record Lists {D : Type 0} (state : D → FolderState) (numbers : List ℕ) (
 abbrev pub number_after : List ℕ → ℕ
 number_after numbers = get_or numbers (length numbers - 1) 0 + 1
 
--- a file got the first free number after the greatest of the new files, and then a sync was made, or failed
-pub record Puts {D : Type 0} (state : D → FolderState) (bytes : List ℕ) (number : ℕ) (durable : Bool) (old new : D)
+-- the first number that a put tries: the clock's, or the one after the greatest if that is greater
+abbrev pub first_number : ℕ → List ℕ → ℕ
+first_number now numbers = max (number_after numbers) now
+
+-- a file got the first free number from there on, and then a sync was made, or failed
+pub record Puts {D : Type 0} (state : D → FolderState) (bytes : List ℕ) (now number : ℕ) (durable : Bool) (old new : D)
     : Type 0 where
   pub numbers : List ℕ
   pub more : ℕ
-  pub number_is : number ≡ number_after numbers + more
+  pub number_is : number ≡ first_number now numbers + more
   pub listed : D
   pub linked : D
   pub lists : Lists state numbers old listed
-  pub names : Names state bytes (number_after numbers) more Did listed linked
+  pub names : Names state bytes (first_number now numbers) more Did listed linked
   pub syncs : Makes state Sync (outcome_if durable) linked new
 
 -- fewer new files than this were listed
@@ -50,24 +54,24 @@ abbrev pub HadRoom : {D : Type 0} → (D → FolderState) → (most : ℕ) → D
 HadRoom {D} state most old = (numbers : List ℕ) × (listed : D) × Lists state numbers old listed × (length numbers < most)
 
 -- a put of which a call failed
-pub data StopsPut {D : Type 0} (state : D → FolderState) (bytes : List ℕ) (old new : D) : Type 0 where
-  AtList : Makes state (ListNames New) Faulted old new → StopsPut state bytes old new
+pub data StopsPut {D : Type 0} (state : D → FolderState) (bytes : List ℕ) (now : ℕ) (old new : D) : Type 0 where
+  AtList : Makes state (ListNames New) Faulted old new → StopsPut state bytes now old new
   AtWrite : (numbers : List ℕ) (listed : D) → Lists state numbers old listed
-      → Makes state (WriteHidden bytes) Faulted listed new → StopsPut state bytes old new
+      → Makes state (WriteHidden bytes) Faulted listed new → StopsPut state bytes now old new
   AtLink : (numbers : List ℕ) (more : ℕ) (listed : D) → Lists state numbers old listed
-      → Names state bytes (number_after numbers) more Faulted listed new → StopsPut state bytes old new
-  AtSync : (number : ℕ) → Puts state bytes number false old new → StopsPut state bytes old new
+      → Names state bytes (first_number now numbers) more Faulted listed new → StopsPut state bytes now old new
+  AtSync : (number : ℕ) → Puts state bytes now number false old new → StopsPut state bytes now old new
 
 -- the calls of a put that didn't succeed
-abbrev pub FailsToPut : {D : Type 0} → (D → FolderState) → List ℕ → ℕ → PutFault → D → D → Type 0
-FailsToPut state bytes most fault.Full old new =
+abbrev pub FailsToPut : {D : Type 0} → (D → FolderState) → List ℕ → ℕ → ℕ → PutFault → D → D → Type 0
+FailsToPut state bytes most now fault.Full old new =
     (numbers : List ℕ) × Lists state numbers old new × (most ≤ length numbers)
-FailsToPut {D} state bytes most fault.Taken old new =
+FailsToPut {D} state bytes most now fault.Taken old new =
     (numbers : List ℕ) × (more : ℕ) × (listed : D) × Lists state numbers old listed
-    × Runs state (tries bytes (number_after numbers) more) true listed new
-FailsToPut state bytes most fault.NoNumber old new =
+    × Runs state (tries bytes (first_number now numbers) more) true listed new
+FailsToPut state bytes most now fault.NoNumber old new =
     (numbers : List ℕ) × Lists state numbers old new × (2 ^ 64 ≤ number_after numbers)
-FailsToPut state bytes most fault.Folder old new = StopsPut state bytes old new
+FailsToPut state bytes most now fault.Folder old new = StopsPut state bytes now old new
 
 -- a file that was to be written and linked wasn't
 abbrev pub FailsToName : {D : Type 0} → (D → FolderState) → List ℕ → ℕ → PutFault → D → D → Type 0

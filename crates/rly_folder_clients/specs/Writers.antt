@@ -18,14 +18,14 @@ OthersInNames {state = state} {bytes} {first} {more} {old = old} given names =
     OthersGiveIn state given (tries bytes first more) true old names.tried names.refused × OthersGive given names.links.events
 
 -- while a file was put
-abbrev pub OthersInPut : {D : Type 0} {state : D → FolderState} {bytes : List ℕ} {number : ℕ} {durable : Bool} {old new : D}
-    → (Name → Option (List ℕ) → Bool) → Puts state bytes number durable old new → Type 0
+abbrev pub OthersInPut : {D : Type 0} {state : D → FolderState} {bytes : List ℕ} {now number : ℕ} {durable : Bool} {old new : D}
+    → (Name → Option (List ℕ) → Bool) → Puts state bytes now number durable old new → Type 0
 OthersInPut given puts =
     OthersGive given puts.lists.makes.events × OthersInNames given puts.names × OthersGive given puts.syncs.events
 
 -- while a put failed
-abbrev pub OthersInStop : {D : Type 0} {state : D → FolderState} {bytes : List ℕ} {old new : D}
-    → (Name → Option (List ℕ) → Bool) → StopsPut state bytes old new → Type 0
+abbrev pub OthersInStop : {D : Type 0} {state : D → FolderState} {bytes : List ℕ} {now : ℕ} {old new : D}
+    → (Name → Option (List ℕ) → Bool) → StopsPut state bytes now old new → Type 0
 OthersInStop given (AtList lists) = OthersGive given lists.events
 OthersInStop given (AtWrite numbers listed lists writes) = OthersGive given lists.makes.events × OthersGive given writes.events
 OthersInStop given (AtLink numbers more listed lists names) =

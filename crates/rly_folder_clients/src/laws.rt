@@ -16,7 +16,8 @@ use rly_folder::Folder;
 /// A put that ended is durable: no change is pending, and its file is there under its number, unless another program
 /// changed that name since.
 pub fn law_put_is_durable<F: Folder>(old: &F, new: &F)
-    ensures { (bytes : List ℕ) (number : ℕ) → (puts : Puts F.state bytes number true old.now new.now)
+    ensures { (bytes : List ℕ) (now number : ℕ)
+        → (puts : Puts F.state bytes now number true old.now new.now)
         → OthersGive (leaves (name_of NewArea number)) puts.syncs.events → (F.state old.now).honest
         → Settled (F.state new.now)
         × ((F.state new.now).seen.files (name_of NewArea number) ≡ Some bytes) }
@@ -25,16 +26,16 @@ pub fn law_put_is_durable<F: Folder>(old: &F, new: &F)
 /// A crash at any moment of a put leaves its file under that one number, or not at all. Each other name has a file that
 /// it had or that another program gave it: whatever holds of all these holds of what is left.
 pub fn law_put_is_there_once<F: Folder>(old: &F, new: &F)
-    ensures { (given : AName → Option (List ℕ) → Bool) (bytes : List ℕ) (number : ℕ) (durable : Bool)
-        → (puts : Puts F.state bytes number durable old.now new.now) → OthersInPut given puts
+    ensures { (given : AName → Option (List ℕ) → Bool) (bytes : List ℕ) (now number : ℕ) (durable : Bool)
+        → (puts : Puts F.state bytes now number durable old.now new.now) → OthersInPut given puts
         → Holds (HasOnly given) (F.state old.now)
         → Stays (HasOnlyOr given (name_of NewArea number) bytes) (F.state old.now) (F.state new.now) }
 {}
 
 /// So does one of a put that failed.
 pub fn law_failed_put_is_there_once<F: Folder>(old: &F, new: &F)
-    ensures { (given : AName → Option (List ℕ) → Bool) (bytes : List ℕ)
-        → (stops : StopsPut F.state bytes old.now new.now) → OthersInStop given stops
+    ensures { (given : AName → Option (List ℕ) → Bool) (bytes : List ℕ) (now : ℕ)
+        → (stops : StopsPut F.state bytes now old.now new.now) → OthersInStop given stops
         → Holds (HasOnly given) (F.state old.now)
         → (number : ℕ) × Stays (HasOnlyOr given (name_of NewArea number) bytes) (F.state old.now) (F.state new.now) }
 {}

@@ -22,12 +22,14 @@ pub enum PutFault {
 /// The number of names that a put tries, one after another, since other writers took the first ones.
 const TRIES: u32 = 1_000;
 
-/// Puts a file into a folder, durably, and returns its number among the new files. It has the first free number after
-/// the greatest one. Refuses if `most` new files wait.
-pub fn put<F: Folder>(folder: &mut F, bytes: &[u8], most: u64) -> Result<u64, PutFault>
-    ensures puts { IfOk result (λ number. Puts F.state bytes.now number true folder.old folder.new) }
+/// Puts a file into a folder, durably, and returns its number among the new files. It has the first free number that is
+/// above the greatest one and not below `now`, the clock in microseconds since 1970: so the name of a file that has left
+/// `new/` doesn't return, while clocks go forward. Refuses if `most` new files wait.
+pub fn put<F: Folder>(folder: &mut F, bytes: &[u8], most: u64, now: u64) -> Result<u64, PutFault>
+    ensures puts { IfOk result (λ number. Puts F.state bytes.now now number true folder.old folder.new) }
     ensures room { IfOk result (λ _. HadRoom F.state most folder.old) }
-    ensures fails { IfErr result (λ fault. FailsToPut F.state bytes.now most fault folder.old folder.new) }
+    ensures clock { IfOk result (λ number. now ≤ number) }
+    ensures fails { IfErr result (λ fault. FailsToPut F.state bytes.now most now fault folder.old folder.new) }
 {
     let Ok(numbers) = folder.list(Area::New) else {
         return Err(PutFault::Folder);
@@ -35,10 +37,10 @@ pub fn put<F: Folder>(folder: &mut F, bytes: &[u8], most: u64) -> Result<u64, Pu
     if (numbers.len() as u64) >= most {
         return Err(PutFault::Full);
     }
-    let Some(first) = next_number(&numbers) else {
+    let Some(next) = next_number(&numbers) else {
         return Err(PutFault::NoNumber);
     };
-    let number = name_file(folder, bytes, first)?;
+    let number = name_file(folder, bytes, next.max(now))?;
     match folder.sync() {
         Ok(()) => Ok(number),
         Err(_) => Err(PutFault::Folder),

@@ -22,6 +22,8 @@ mod expect;
 #[cfg(test)]
 mod fault_folder;
 #[cfg(test)]
+mod gets;
+#[cfg(test)]
 mod hop_neighbour;
 #[cfg(test)]
 mod inbox;

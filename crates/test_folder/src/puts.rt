@@ -8,7 +8,7 @@ use std::process::Abort;
 const MOST: u64 = 3;
 
 fn expect_put<R: Abort, F: Folder>(rt: &R, folder: &mut F, number: u64) {
-    let put_as = put(folder, &[5], MOST);
+    let put_as = put(folder, &[5], MOST, 0);
     expect!(*rt; put_as == Ok(number), number);
 }
 
@@ -23,10 +23,27 @@ fn puts_have_numbers_in_order(rt: HostRuntime) {
         .put(Name { area, number: 6 }, file)
         .expect(&rt, "memory");
     expect_put(&rt, &mut folder, 7);
-    expect!(rt; put(&mut folder, &[5], MOST) == Err(PutFault::Full));
+    expect!(rt; put(&mut folder, &[5], MOST, 0) == Err(PutFault::Full));
     expect_listed(&rt, &mut folder, Area::New, &[1, 6, 7], 0);
     // Two puts of four calls, and two lists.
     expect!(rt; folder.calls() == 10 && folder.syncs() == 2);
+}
+
+/// A put isn't numbered below the clock, and above the greatest number all the same.
+#[test]
+fn puts_are_numbered_by_the_clock(rt: HostRuntime) {
+    let mut folder = MemFolder::new(rt.alloc());
+    expect!(rt; put(&mut folder, &[5], MOST, 1_000) == Ok(1_000));
+    expect!(rt; put(&mut folder, &[5], MOST, 1_000) == Ok(1_001));
+    expect!(rt; put(&mut folder, &[5], MOST, 900) == Ok(1_002));
+    let area = Area::New;
+    folder
+        .take(Name {
+            area,
+            number: 1_002,
+        })
+        .expect(&rt, "memory");
+    expect!(rt; put(&mut folder, &[5], MOST, 1_003) == Ok(1_003));
 }
 
 /// After the greatest number there is none.
@@ -39,7 +56,7 @@ fn the_greatest_number_is_the_last(rt: HostRuntime) {
     folder
         .put(Name { area, number }, file)
         .expect(&rt, "memory");
-    expect!(rt; put(&mut folder, &[5], MOST) == Err(PutFault::NoNumber));
+    expect!(rt; put(&mut folder, &[5], MOST, 0) == Err(PutFault::NoNumber));
 }
 
 /// Each of the four calls fails, and is made nevertheless or not: the file is there once or not at all.
@@ -49,7 +66,7 @@ fn a_failure_at_each_call_of_a_put(rt: HostRuntime) {
         for made in &[false, true] {
             let inside = MemFolder::new(rt.alloc());
             let mut folder = FaultFolder::new(inside, at, *made, After::GoesOn);
-            expect!(rt; put(&mut folder, &[5], MOST) == Err(PutFault::Folder), at);
+            expect!(rt; put(&mut folder, &[5], MOST, 0) == Err(PutFault::Folder), at);
             let there = at == 4 || (at == 3 && *made);
             let numbers: &[u64] = if there { &[1] } else { &[] };
             expect_listed(&rt, &mut folder.into_inner(), Area::New, numbers, at);
@@ -64,7 +81,7 @@ fn a_crash_at_each_call_of_a_put(rt: HostRuntime) {
         for stands in &[false, true] {
             let inside = MemFolder::new(rt.alloc());
             let mut folder = FaultFolder::new(inside, at, *stands, After::Stops);
-            let ended = put(&mut folder, &[5], MOST).is_ok();
+            let ended = put(&mut folder, &[5], MOST, 0).is_ok();
             expect!(rt; ended == (at == 5), at);
             let left = folder.into_inner().crash(&[*stands]);
             let mut left = left.expect(&rt, "memory");
