@@ -2,10 +2,13 @@ mod FilesHandedOut
 mod Handed
 mod InboxLaws
 mod LawLemmas
+mod Links
 mod Made
 mod Moves
 mod Numbers
 mod Packets
+mod PeerGives
+mod Peers
 mod Placed
 mod Removals
 mod Steps

@@ -1,6 +1,9 @@
 -- The neighbour station of a hop, played by a folder: its answers to packets.
-use Rattle.std.specs.Prelude.{◌≡◌, ◌≢◌, ◌≤◌, ◌+◌, ◌&&◌, ◌==◌, ℕ, if◌then◌else◌, List, Option, None, Some, is_some, ⊤}
+use Rattle.std.specs.Prelude.{◌≡◌, ◌≢◌, ◌⊎◌, ◌≤◌, ◌+◌, ◌&&◌, ◌==◌, ℕ, Bool, true, false, if◌then◌else◌, List, Option, None, Some, is_some, ⊤}
+use Rattle.std.specs.Option.{option_map}
+use Rattle.rly_folder.specs.FolderCalls.{Faulted, ListNames, Makes}
 use Rattle.rly_folder.specs.FolderModel.{FolderState}
+use Rattle.rly_folder.specs.declared.name.Area.TheVariants.{Out}
 use Rattle.rly_hop.specs.declared.message.Message.{Message}
 use Rattle.rly_hop.specs.declared.message.Message.TheVariants as message
 use Rattle.rly_hop.specs.declared.receiving.event.InAction.{InAction}
@@ -9,7 +12,10 @@ use Rattle.rly_hop.specs.declared.receiving.event.TakeAnswer.{TakeAnswer}
 use Rattle.rly_hop.specs.declared.receiving.event.TakeAnswer.TheVariants as answer
 use Rattle.rly_hop.specs.Receiver.{Receiver}
 use Rattle.rly_hop.specs.Receiving.{take_reply}
+use Rattle.rly_hop.specs.Spelling.{spelling}
+use Rattle.rly_link.specs.LinkHistory.{message_in}
 use Rattle.rly_link_folder.specs.Outbox.{Takes, folder_of, greatest_after, greatest_of, most_of}
+use Rattle.rly_link_folder.specs.OutboxCalls.{HasRoom}
 use Rattle.rly_link_folder.specs.declared.hop_neighbour.Replies.{Replies}
 use Rattle.rly_link_folder.specs.declared.outbox.Outbox.{Outbox}
 
@@ -45,11 +51,17 @@ reply_of (Some (Send message)) = Some message
 reply_of (Some (Take number limit payload)) = None
 
 -- the messages that wait, with this one: a later Custody says more than one before it
+abbrev pub with_custody : Replies → ℕ → Replies
+with_custody replies last = record replies { custody = Some last; full = false }
+
+abbrev pub with_refused : Replies → ℕ → ℕ → Replies
+with_refused replies number refusal = record replies { refused = Some (number, refusal); full = refusal == 6 }
+
 abbrev pub with_reply : Replies → Option (Message (List ℕ)) → Replies
 with_reply replies None = replies
 with_reply replies (Some (message.Data from to number limit payload)) = replies
-with_reply replies (Some (message.Custody from to last)) = record replies { custody = Some last }
-with_reply replies (Some (message.Refused from to number refusal)) = record replies { refused = Some (number, refusal) }
+with_reply replies (Some (message.Custody from to last)) = with_custody replies last
+with_reply replies (Some (message.Refused from to number refusal)) = with_refused replies number refusal
 with_reply replies (Some (message.Heard from to last bits)) = replies
 
 -- what became of a packet: a Data is answered by the outbox, and anything else changes nothing
@@ -72,9 +84,37 @@ next_reply r replies = refusal_or r replies.refused (custody_reply r replies.cus
 
 -- the messages that wait then
 abbrev pub after_reply : Replies → Replies
-after_reply replies = record { custody = if is_some replies.refused then replies.custody else None; refused = None }
+after_reply replies =
+    record { custody = if is_some replies.refused then replies.custody else None; refused = None; full = replies.full }
+
+-- the folder was listed, and these messages wait then
+pub record IsListed {F : Type 0} (replies : Replies) (old new : Neighbour F) : Type 0 where
+  pub greatest : greatest_of new.outbox ≡ greatest_of old.outbox
+  pub most : most_of new.outbox ≡ most_of old.outbox
+  pub rest : new ≡ record old { outbox = new.outbox; replies = replies }
+
+-- if a Data was refused since the last Custody, as the folder was full: once there is room, a Custody of the greatest
+-- number waits
+abbrev pub OffersIf : Bool → {F : Type 0} → (F → FolderState) → Neighbour F → Neighbour F → Type 0
+OffersIf false state old new = new ≡ old
+OffersIf true state old new =
+    (HasRoom state (most_of old.outbox) true (folder_of old.outbox) (folder_of new.outbox)
+    × IsListed (with_custody old.replies (greatest_of old.outbox)) old new)
+    ⊎ (HasRoom state (most_of old.outbox) false (folder_of old.outbox) (folder_of new.outbox) × IsListed old.replies old new)
+    ⊎ (Makes state (ListNames Out) Faulted (folder_of old.outbox) (folder_of new.outbox) × IsListed old.replies old new)
+
+abbrev pub Offers : {F : Type 0} → (F → FolderState) → Neighbour F → Neighbour F → Type 0
+Offers state old new = OffersIf old.replies.full state old new
 
 -- a Custody is of numbers whose files are durable
 abbrev pub IsDurable : Option ℕ → ℕ → Type 0
 IsDurable None greatest = ⊤
 IsDurable (Some last) greatest = last ≤ greatest
+
+-- what a link makes of it: a packet comes, or one is wanted
+abbrev pub HearsPacket : {F : Type 0} → (F → FolderState) → List ℕ → Neighbour F → Neighbour F → Type 0
+HearsPacket state packet old new = Handles state (data_of old.core (message_in (Some packet))) old new
+
+abbrev pub GivesReply : {F : Type 0} → Option (List ℕ) → Neighbour F → Neighbour F → Type 0
+GivesReply packet old new = (packet ≡ option_map spelling (next_reply old.core old.replies))
+    × (new ≡ record old { replies = after_reply old.replies })

@@ -4,7 +4,7 @@ use Rattle.rly_folder.specs.FolderCalls.{Declined, Done, Failed, FolderEvent, Ot
 use Rattle.rly_folder.specs.FolderModel.{Files, FolderState, LeavesOnly}
 use Rattle.rly_folder.specs.Names.{name_of}
 use Rattle.rly_folder.specs.declared.name.Area.{Area}
-use Rattle.rly_folder.specs.declared.name.Area.TheVariants.{Kept, New, NoRoute, Out, Sent, TooLong, TooShort}
+use Rattle.rly_folder.specs.declared.name.Area.TheVariants.{Kept, New, NoRoute, Out, Printed, Sent, TooLong, TooShort}
 use Rattle.rly_folder.specs.declared.name.Name.{Name}
 
 -- all files that were ever put, or are being put
@@ -24,6 +24,7 @@ is_incoming TooLong = true
 is_incoming TooShort = true
 is_incoming Out = false
 is_incoming Kept = false
+is_incoming Printed = false
 
 -- a file may be absent while its put hasn't ended, or once its number is in the station's custody
 abbrev pub MayLack : ℕ → Bool → Name → Type 0

@@ -1,3 +1,4 @@
+pub mod FolderLink
 pub mod Handing
 pub mod HopNeighbour
 pub mod Inbox
@@ -5,4 +6,6 @@ pub mod InboxCalls
 pub mod Incoming
 pub mod Outbox
 pub mod OutboxCalls
+pub mod PeerData
+pub mod PeerNeighbour
 pub mod Script

@@ -1,18 +1,16 @@
 // The neighbour station of a hop, played by a folder.
 ghost use Rattle.std.specs.Option.{option_map};
-ghost use Rattle.std.specs.Prelude.{◌≡◌, ◌≤◌, IfNone, IfSome, None, Some, length, take};
+ghost use Rattle.std.specs.Prelude.{◌≡◌, ◌≤◌, IfNone, IfSome, None, Some, false, length, take};
 ghost use Rattle.rly_hop.specs.Payloads.{message_bytes};
 ghost use Rattle.rly_hop.specs.Receiving.{receiver, take_reply};
 ghost use Rattle.rly_hop.specs.Spelling.{IsStation, spelling, write_refusal};
 ghost use Rattle.rly_link.specs.LinkHistory.{message_in};
-ghost use Rattle.rly_link_folder.specs.HopNeighbour.{after_reply, data_of, next_reply, reply_of, with_reply};
+ghost use Rattle.rly_link_folder.specs.HopNeighbour.{after_reply, data_of, next_reply, reply_of, with_custody, with_refused, with_reply};
 
 use crate::Outbox;
+use crate::messages::{message_of, write_packet};
 use rly_folder::Folder;
-use rly_hop::{
-    InAction, InEvent, MAX_MESSAGE, Message, Receiving, StationId, TakeAnswer, read_message,
-    write_message,
-};
+use rly_hop::{InAction, InEvent, MAX_MESSAGE, Message, Receiving, StationId, TakeAnswer};
 use std::marker::Model;
 
 /// The messages that wait to be sent: at most one of each kind, since a later Custody says more than one before it, and a
@@ -21,6 +19,8 @@ use std::marker::Model;
 struct Replies {
     custody: Option<u64>,
     refused: Option<(u64, u8)>,
+    /// A Data was refused since the last Custody, as the folder was full.
+    full: bool,
 }
 
 /// The neighbour station of a hop, played by a folder: it takes the hop's Data in order, makes files of them, and answers
@@ -50,7 +50,7 @@ impl<F> Model for HopNeighbour<F> {
 }
 
 impl<F: Folder> HopNeighbour<F> {
-    ghost use Rattle.rly_link_folder.specs.HopNeighbour.{Handles, IsDurable};
+    ghost use Rattle.rly_link_folder.specs.HopNeighbour.{Handles, IsDurable, Offers};
     ghost use Rattle.rly_link_folder.specs.Outbox.{greatest_of};
 
     /// The station `own`, which this folder plays, for the hop of the station `station`. At first it sends nothing.
@@ -58,7 +58,7 @@ impl<F: Folder> HopNeighbour<F> {
         requires stations { IsStation own × IsStation station }
         ensures core { result.core ≡ receiver own station }
         ensures outbox { result.outbox ≡ outbox }
-        ensures replies { result.replies ≡ record { custody = None; refused = None } }
+        ensures replies { result.replies ≡ record { custody = None; refused = None; full = false } }
     {
         HopNeighbour {
             own,
@@ -68,6 +68,7 @@ impl<F: Folder> HopNeighbour<F> {
             replies: Replies {
                 custody: None,
                 refused: None,
+                full: false,
             },
         }
     }
@@ -100,8 +101,23 @@ impl<F: Folder> HopNeighbour<F> {
         let message = self.next_reply();
         self.replies.remove_first();
         match message {
-            Some(message) => write_reply(message, buffer),
+            Some(message) => write_packet(message, buffer),
             None => None,
+        }
+    }
+
+    /// Makes a Custody of the greatest number wait, which nobody asked for, if the hop was told that the folder is full and
+    /// now there is room: so the hop learns of it. A call that failed changes nothing.
+    pub fn offer(&mut self)
+        ensures { Offers F.state self.old self.new }
+    {
+        if !self.replies.full {
+            return;
+        }
+        match self.outbox.has_room() {
+            Ok(true) => self.replies.add_custody(self.outbox.greatest()),
+            Ok(false) => {}
+            Err(_) => {}
         }
     }
 
@@ -121,16 +137,6 @@ impl<F: Folder> HopNeighbour<F> {
             (None, Some(last)) => Some(Message::Custody { from, to, last }),
             (None, None) => None,
         }
-    }
-}
-
-/// The message in a packet, if there is one.
-fn message_of<'a>(packet: &'a [u8]) -> Option<Message<&'a [u8]>>
-    ensures { option_map message_bytes result ≡ message_in (Some packet.now) }
-{
-    match read_message(packet) {
-        Ok(message) => Some(message),
-        Err(_) => None,
     }
 }
 
@@ -167,20 +173,6 @@ fn reply_to<'a>(core: &mut Receiving, number: u64, answer: TakeAnswer) -> Option
     }
 }
 
-/// Writes a message that has a spelling at the front of a buffer, and returns its length in bytes.
-fn write_reply(message: Message<&[u8]>, buffer: &mut [u8]) -> Option<usize>
-    requires room { MAX_MESSAGE ≤ length buffer.old }
-    requires spelled { write_refusal (message_bytes message) ≡ None }
-    ensures bound { IfSome result (λ count. count ≤ length buffer.new) }
-    ensures written { option_map (λ count. take count buffer.new) result
-        ≡ Some (spelling (message_bytes message.entry)) }
-{
-    match write_message(message, buffer) {
-        Ok(count) => Some(count),
-        Err(_) => None,
-    }
-}
-
 impl Replies {
     /// Removes the message that was sent.
     fn remove_first(&mut self)
@@ -192,19 +184,33 @@ impl Replies {
         self.refused = None;
     }
 
+    fn add_custody(&mut self, last: u64)
+        ensures { self.new ≡ with_custody self.old last }
+    {
+        self.custody = Some(last);
+        self.full = false;
+    }
+
+    fn add_refused(&mut self, number: u64, refusal: u8)
+        ensures { self.new ≡ with_refused self.old number refusal }
+    {
+        self.refused = Some((number, refusal));
+        self.full = refusal == 6;
+    }
+
     /// Adds a message, if there is one.
     fn add(&mut self, message: Option<Message<&[u8]>>)
         ensures { self.new ≡ with_reply self.old (option_map message_bytes message.entry) }
     {
         match message {
-            Some(Message::Custody { last, .. }) => self.custody = Some(last),
+            Some(Message::Custody { last, .. }) => self.add_custody(last),
             Some(
                 Message::Refused {
                     number,
                     refusal,
                     ..
                 },
-            ) => self.refused = Some((number, refusal)),
+            ) => self.add_refused(number, refusal),
             Some(Message::Data { .. } | Message::Heard { .. }) | None => {}
         }
     }

@@ -1,10 +1,11 @@
 // The incoming half of a folder that plays a neighbour.
-ghost use Rattle.std.specs.Prelude.{◌≡◌, IfErr, IfOk, IsTrue, None, Ok, OnErr, Some, false, is_ok, option_map, true};
+ghost use Rattle.std.specs.Prelude.{◌≡◌, ◌≤◌, IfErr, IfOk, IsTrue, None, Ok, OnErr, Some, false, if◌then◌else◌, is_ok};
+ghost use Rattle.std.specs.Prelude.{option_map, true};
 ghost use Rattle.rly_folder.specs.FolderCalls.{Faulted, ListNames, Makes, ReadFile, outcome_if};
 ghost use Rattle.rly_folder.specs.FolderModel.{IsListing};
 ghost use Rattle.rly_folder.specs.Names.{name_of};
 ghost use Rattle.rly_folder.specs.declared.name.Area.TheVariants.{New, Sent};
-ghost use Rattle.rly_link_folder.specs.InboxCalls.{FailsToRelease, Joins, Reads, Releases};
+ghost use Rattle.rly_link_folder.specs.InboxCalls.{FailsToJoin, FailsToRelease, Joins, Reads, Releases};
 ghost use Rattle.rly_link_folder.specs.Inbox.{last_after};
 
 use crate::Admission;
@@ -49,16 +50,56 @@ impl<F: Folder> Inbox<F> {
         ensures custody { IfOk result (λ inbox. custody_of inbox ≡ custody) }
         ensures fails { IfErr result (λ left. IsNotOpen F.state custody left folder) }
     {
-        let mut folder = folder;
-        match join(&mut folder, custody) {
-            Ok(Some(last)) => Ok(Inbox {
-                folder,
-                custody,
-                last,
-            }),
-            Ok(None) => Err(NotOpen::Apart(folder)),
-            Err(_) => Err(NotOpen::Failed(folder)),
+        let mut inbox = Inbox::closed(folder);
+        match inbox.open_again(custody) {
+            Ok(true) => Ok(inbox),
+            Ok(false) => Err(NotOpen::Apart(inbox.into_folder())),
+            Err(_) => Err(NotOpen::Failed(inbox.into_folder())),
         }
+    }
+
+    /// One that isn't open yet, in which no file has a number.
+    pub(crate) fn closed(folder: F) -> Self
+        ensures folder { inbox_folder result ≡ folder }
+        ensures custody { custody_of result ≡ 0 }
+        ensures last { last_of result ≡ 0 }
+    {
+        Inbox {
+            folder,
+            custody: 0,
+            last: 0,
+        }
+    }
+
+    /// Opens it in place, as `open` does. Returns false if `sent/` doesn't go on from the station's number: it is as open
+    /// as before then, and after an `Err` too.
+    pub(crate) fn open_again(&mut self, custody: u64) -> Result<bool, FolderFault>
+        ensures opens { IfOk result (λ goes_on. IsTrue goes_on
+            → Joins F.state custody (Some (last_of self.new)) (inbox_folder self.old) (inbox_folder self.new)) }
+        ensures apart { IfOk result (λ goes_on. ¬ IsTrue goes_on
+            → Joins F.state custody None (inbox_folder self.old) (inbox_folder self.new)) }
+        ensures custody { IfOk result (λ goes_on. custody_of self.new ≡ (if goes_on then custody else custody_of self.old)) }
+        ensures last { IfOk result (λ goes_on. ¬ IsTrue goes_on → last_of self.new ≡ last_of self.old) }
+        ensures within { IfOk result (λ goes_on. IsTrue goes_on → custody ≤ last_of self.new) }
+        ensures fails { OnErr result (FailsToJoin F.state (inbox_folder self.old) (inbox_folder self.new)) }
+        ensures unchanged { OnErr result ((custody_of self.new ≡ custody_of self.old) × (last_of self.new ≡ last_of self.old)) }
+    {
+        match join(&mut self.folder, custody) {
+            Ok(Some(last)) => {
+                self.custody = custody;
+                self.last = last;
+                Ok(true)
+            }
+            Ok(None) => Ok(false),
+            Err(fault) => Err(fault),
+        }
+    }
+
+    /// Returns the station's number.
+    pub fn custody(&self) -> u64
+        ensures { result ≡ custody_of self.now }
+    {
+        self.custody
     }
 
     /// Returns the last number that a file has durably, the station's if no file has one.
@@ -91,22 +132,33 @@ impl<F: Folder> Inbox<F> {
         ensures fails { IfErr result (λ left. FailsToEnter F.state rules.now (last_of self) place
             (inbox_folder self) left) }
     {
-        let Inbox {
-            mut folder,
-            custody,
-            last,
-        } = self;
-        match enter(&mut folder, rules, last, place) {
+        let mut inbox = self;
+        match inbox.enter_in_place(place, rules) {
+            Ok(entry) => Ok((inbox, entry)),
+            Err(_) => Err(inbox.into_folder()),
+        }
+    }
+
+    /// Does the same in place. After an `Err` it has to be opened again before the next file.
+    pub(crate) fn enter_in_place(
+        &mut self,
+        place: u64,
+        rules: &Admission,
+    ) -> Result<Entry, FolderFault>
+        ensures enters { IfOk result (λ entry. Enters F.state rules.now (last_of self.old) place entry
+            (inbox_folder self.old) (inbox_folder self.new)) }
+        ensures last { IfOk result (λ entry. last_of self.new ≡ last_after (last_of self.old) entry) }
+        ensures custody { custody_of self.new ≡ custody_of self.old }
+        ensures fails { OnErr result (FailsToEnter F.state rules.now (last_of self.old) place
+            (inbox_folder self.old) (inbox_folder self.new)) }
+        ensures unchanged { OnErr result (last_of self.new ≡ last_of self.old) }
+    {
+        match enter(&mut self.folder, rules, self.last, place) {
             Ok(entry) => {
-                let last = last_after(last, entry);
-                let inbox = Inbox {
-                    folder,
-                    custody,
-                    last,
-                };
-                Ok((inbox, entry))
+                self.last = last_after(self.last, entry);
+                Ok(entry)
             }
-            Err(_) => Err(folder),
+            Err(fault) => Err(fault),
         }
     }
 

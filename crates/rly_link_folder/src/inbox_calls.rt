@@ -1,7 +1,7 @@
 //! The calls that give files numbers, read them, and remove them.
 
 ghost use Rattle.std.specs.Prelude.{◌≡◌, ◌==◌, ◌&&◌, ◌||◌, ◌+◌, ◌-◌, ◌∷◌, [], IfOk, OnErr, OnOk, is_ok, length, nat_le};
-ghost use Rattle.std.specs.Prelude.{nat_lt, slice_index, true};
+ghost use Rattle.std.specs.Prelude.{◌≤◌, IfSome, IsTrue, nat_lt, slice_index, true};
 ghost use Rattle.std.specs.List.Sorted.{IsStrictlyIncreasing};
 ghost use Rattle.rly_folder.specs.FolderCalls.{Faulted, Makes, ReadFile};
 ghost use Rattle.rly_folder.specs.Names.{name_of};
@@ -101,7 +101,8 @@ pub(crate) fn enter<F: Folder>(
 
 /// Returns whether the numbers above the station's, up to the greatest, are all there.
 fn goes_on(numbers: &[u64], custody: u64, greatest: u64) -> bool
-    ensures { result ≡ ((custody == greatest) || (nat_lt custody greatest
+    ensures within { IsTrue result → custody ≤ greatest }
+    ensures test { result ≡ ((custody == greatest) || (nat_lt custody greatest
         && nat_le (greatest - custody) (length numbers.now)
         && (slice_index numbers.now (length numbers.now - (greatest - custody)) == custody + 1))) }
 {
@@ -114,7 +115,8 @@ fn goes_on(numbers: &[u64], custody: u64, greatest: u64) -> bool
 
 /// Returns the last of the numbers of `sent/`, the station's if there are none: `None` if they don't go on from it.
 fn last_in(numbers: &[u64], custody: u64) -> Option<u64>
-    ensures { IsStrictlyIncreasing numbers.now → GoesOnTo custody result numbers.now }
+    ensures goes_on { IsStrictlyIncreasing numbers.now → GoesOnTo custody result numbers.now }
+    ensures within { IfSome result (λ last. custody ≤ last) }
 {
     if numbers.is_empty() {
         return Some(custody);
@@ -130,6 +132,7 @@ fn last_in(numbers: &[u64], custody: u64) -> Option<u64>
 /// Lists `sent/` after a sync, and returns its last number, or `None` if it doesn't go on from the station's.
 pub(crate) fn join<F: Folder>(folder: &mut F, custody: u64) -> Result<Option<u64>, FolderFault>
     ensures ok { IfOk result (λ last. Joins F.state custody last folder.old folder.new) }
+    ensures within { IfOk result (λ last. IfSome last (λ number. custody ≤ number)) }
     ensures err { OnErr result (FailsToJoin F.state folder.old folder.new) }
 {
     folder.sync()?;

@@ -11,21 +11,32 @@
 //! each file whose put ended under exactly one name (`specs/Incoming.antt`).
 //!
 //! `HopNeighbour` puts an outbox behind the receiving core: packets in, packets out
-//! (`specs/HopNeighbour.antt`).
+//! (`specs/HopNeighbour.antt`). `PeerNeighbour` asks for the station's last number, opens an inbox to
+//! it, and gives its files as Data, no more at once than a window (`specs/PeerNeighbour.antt`).
+//! `FolderLink` is a link over either, with another link as its bell (`specs/FolderLink.antt`).
 #![tactic(auto)]
 
 mod admission;
 mod calls;
+mod folder_link;
 mod hop_neighbour;
 mod inbox;
 mod inbox_calls;
 mod inbox_laws;
 mod laws;
+mod messages;
+mod neighbour;
 mod outbox;
+mod peer_laws;
+mod peer_neighbour;
 
 pub use admission::Admission;
+pub use folder_link::FolderLink;
 pub use hop_neighbour::HopNeighbour;
 pub use inbox::{Entry, Inbox, NotOpen};
 pub use inbox_laws::{law_numbers, law_releases};
 pub use laws::{law_hands_out, law_lists, law_opens_to};
+pub use neighbour::Neighbour;
 pub use outbox::Outbox;
+pub use peer_laws::law_gives;
+pub use peer_neighbour::{PeerNeighbour, Phase};

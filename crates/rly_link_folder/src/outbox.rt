@@ -1,10 +1,12 @@
 // The outgoing half of a folder that plays a neighbour.
-ghost use Rattle.std.specs.Prelude.{◌≡◌, ◌≢◌, ◌+◌, IfErr, IfOk};
-ghost use Rattle.rly_link_folder.specs.OutboxCalls.{FailsToOpen, Opens};
+ghost use Rattle.std.specs.Prelude.{◌≡◌, ◌≢◌, ◌+◌, IfErr, IfOk, OnErr};
+ghost use Rattle.rly_folder.specs.FolderCalls.{Faulted, ListNames, Makes};
+ghost use Rattle.rly_folder.specs.declared.name.Area.TheVariants.{Out};
+ghost use Rattle.rly_link_folder.specs.OutboxCalls.{FailsToOpen, HasRoom, Opens};
 
 use crate::calls::{hand_out, has_room, recover};
 use rly_core::Refusal;
-use rly_folder::Folder;
+use rly_folder::{Folder, FolderFault};
 use rly_hop::TakeAnswer;
 
 /// Plays the neighbour station of a hop: the Data of the hop become files of the folder. Its answers are those to the
@@ -62,6 +64,23 @@ impl<F: Folder> Outbox<F> {
             Ok(false) => TakeAnswer::Refused(Refusal::Full),
             Err(_) => TakeAnswer::Other,
         }
+    }
+
+    /// Returns the greatest number of which custody was answered.
+    pub fn greatest(&self) -> u64
+        ensures { result ≡ greatest_of self.now }
+    {
+        self.greatest
+    }
+
+    /// Returns whether a file can be added now: the folder has fewer than `most`.
+    pub fn has_room(&mut self) -> Result<bool, FolderFault>
+        ensures ok { IfOk result (λ room. HasRoom F.state (most_of self.old) room (folder_of self.old) (folder_of self.new)) }
+        ensures err { OnErr result (Makes F.state (ListNames Out) Faulted (folder_of self.old) (folder_of self.new)) }
+        ensures greatest { greatest_of self.new ≡ greatest_of self.old }
+        ensures most { most_of self.new ≡ most_of self.old }
+    {
+        has_room(&mut self.folder, self.most)
     }
 
     /// Returns the folder.

@@ -22,6 +22,8 @@ mod expect;
 #[cfg(test)]
 mod fault_folder;
 #[cfg(test)]
+mod folder_link;
+#[cfg(test)]
 mod gets;
 #[cfg(test)]
 mod hop_neighbour;
@@ -31,6 +33,8 @@ mod inbox;
 mod mem;
 #[cfg(test)]
 mod outbox;
+#[cfg(test)]
+mod peer_neighbour;
 #[cfg(test)]
 mod puts;
 

@@ -5,7 +5,7 @@ use Rattle.rly_hop.specs.Payloads.{message_bytes}
 use Rattle.rly_hop.specs.MessageReads.{message_or_fault}
 use Rattle.rly_hop.proofs.Messages.{reading-spelling}
 use Rattle.rly_link_folder.proofs.Packets.{faulty}
-use Rattle.rly_link_folder.proofs.hop_neighbour.message_of.Goals as goal
+use Rattle.rly_link_folder.proofs.messages.message_of.Goals as goal
 
 pub returns-in-Ok : goal.returns-in-Ok
 returns-in-Ok c =
