@@ -3,6 +3,10 @@ use Rattle.std.proofs.Common.{◌≡◌, ◌∙◌, ℕ, ◌+◌, ap, arith, fal
 use Rattle.std.specs.Prelude.{Err, Ok, OnOk, Result}
 use Rattle.rly_journal.specs.Journal.{JournalState}
 
+pub always_ok : {A E X : Type 0} (r : Result A E) → X → OnOk r X
+always_ok (Ok a) x = x
+always_ok (Err e) x = tt
+
 pub then_ok : {A E X Y : Type 0} (r : Result A E) → OnOk r X → (X → Y) → OnOk r Y
 then_ok (Ok a) x f = f x
 then_ok (Err e) x f = tt
@@ -11,6 +15,11 @@ then_ok (Err e) x f = tt
 pub then_both : {A E X Y Z : Type 0} (r : Result A E) → OnOk r X → OnOk r Y → (X → Y → Z) → OnOk r Z
 then_both (Ok a) x y f = f x y
 then_both (Err e) x y f = tt
+
+-- and of three
+pub then_each : {A E X Y Z V : Type 0} (r : Result A E) → OnOk r X → OnOk r Y → OnOk r Z → (X → Y → Z → V) → OnOk r V
+then_each (Ok a) x y z f = f x y z
+then_each (Err e) x y z f = tt
 
 -- a journal that is left whole, and a count, without the context of its use
 pub left_whole : {D : Type 0} (left journal : JournalState D) → left ≡ journal → journal.broken ≡ false → left.broken ≡ false

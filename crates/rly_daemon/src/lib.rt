@@ -15,7 +15,7 @@ pub use rly_daemon_args::{Settings, SettingsFault, settings};
 pub use rly_daemon_commands::{FileDisk, NewKeyFault, UseFault, check_unused, write_key};
 pub use rly_daemon_lines::{TextFault, play, sim};
 pub use rly_daemon_serve::{
-    Events, RelaySettings, Reports, UdpRelayed, UdpReported, WallReportClock, serve,
+    Events, RelaySettings, Reports, Served, UdpRelayed, UdpReported, WallReportClock, serve,
     serve_reporting, serve_with_events,
 };
 pub use rly_link_udp::{NeighbourLink, UdpLink, WallClock};

@@ -13,13 +13,17 @@ use rly_core::Refusal;
 use rly_daemon_commands::{CommandFault, FileDisk, open_journal, refusal_with_cause};
 use rly_daemon_events::{HopLines, Rests, SharedOutput};
 use rly_daemon_lines::TextFault;
-use rly_daemon_reporter::{ReporterEnd, Tally};
-use rly_daemon_serve::{Events, RelaySettings, Reports, serve, serve_reporting, serve_with_events};
+use rly_daemon_reporter::{Counters, ReportClock, Reported, ReporterEnd, Tally};
+use rly_daemon_serve::{
+    Events, RelaySettings, Reports, Served, serve, serve_reporting, serve_with_events,
+};
 use rly_disk::Disk;
 use rly_journal::Journal;
+use rly_link::{Link, Turn, Waker};
 use rly_plan::Plan;
 use rly_segment::read_header;
 use rly_station::{ErrorLines, ServeFault, read_keys, read_plan};
+use rly_threads::Relayed;
 use std::alloc::{AllocError, Global};
 use std::fs::{File, Files};
 use std::io::Write;
@@ -67,7 +71,7 @@ fn serve_plan<H: Host, E: Write>(
     let lines = shared_lines(rt.alloc())?;
     let (journal, size) = open_file(rt, file, &lines)?;
     match serve(rt, journal, plan, keys, settings, size, lines, errors) {
-        Ok(_relayed) => report_end(settings.turns, errors),
+        Ok(served) => relay_ended(settings.turns, served, errors),
         Err(failed) => Err(fault_of(failed)),
     }
 }
@@ -99,8 +103,8 @@ fn report_plan<H: Host, W: Write + Send, E: Write>(
     match serve_reporting(
         rt, journal, plan, keys, settings, size, lines, reports, writer, errors,
     ) {
-        Ok(reported) => reports_ended(settings.turns, reported.into_end(), errors),
-        Err((fault, disk)) => Err(fault_of((fault, disk.into_inner()))),
+        Ok(served) => reported_ended(settings.turns, served, false, errors),
+        Err(failed) => Err(counted_fault_of(failed)),
     }
 }
 
@@ -137,13 +141,8 @@ fn watch_plan<H: Host, W: Write + Send, E: Write>(
     match serve_with_events(
         rt, journal, plan, keys, settings, size, lines, reports, events, errors,
     ) {
-        Ok(reported) => watch_ended(
-            settings.turns,
-            reported.into_end(),
-            output.has_failed(),
-            errors,
-        ),
-        Err((fault, disk)) => Err(fault_of((fault, disk.into_inner()))),
+        Ok(served) => reported_ended(settings.turns, served, output.has_failed(), errors),
+        Err(failed) => Err(counted_fault_of(failed)),
     }
 }
 
@@ -183,20 +182,57 @@ fn fault_of(failed: (ServeFault, FileDisk)) -> CommandFault {
     }
 }
 
-/// Logs why a relay that reports ended. Returns an error if the reports' writer failed.
-fn reports_ended<E: Write>(turns: u64, end: ReporterEnd, errors: &mut E) -> Result<(), CommandFault>
+/// The same where the gates of the device are counted.
+fn counted_fault_of(failed: (ServeFault, CountedDisk<FileDisk>)) -> CommandFault {
+    let (fault, disk) = failed;
+    fault_of((fault, disk.into_inner()))
+}
+
+/// Logs why a relay ended, or returns its fault.
+fn relay_ended<L: Link + Drop, T: Turn + Drop, K: Waker + Drop, E: Write>(
+    turns: u64,
+    served: Served<Relayed<FileDisk, L, T, K>>,
+    errors: &mut E,
+) -> Result<(), CommandFault>
     ensures told { OnOk result (Appends (E.contents errors.old) (E.contents errors.new) (ended_line turns)) }
-    ensures end { OnOk result ((end ≡ ReporterEnd.NoneDue) ⊎ (end ≡ ReporterEnd.Closed)) }
+    ensures well { OnOk result (served.fault ≡ None) }
 {
-    report_end(turns, errors)?;
-    match end {
-        ReporterEnd::Output => Err(CommandFault::Text(TextFault::Output)),
-        ReporterEnd::NoneDue | ReporterEnd::Closed => Ok(()),
+    let Served { end, fault } = served;
+    match fault {
+        None => report_end(turns, errors),
+        Some(fault) => Err(fault_of((fault, end.finished.journal.into_disk()))),
     }
 }
 
-/// The same of a relay with events, whose output may have failed.
-fn watch_ended<E: Write>(
+/// The same of a relay that reports. Returns an error if the output of its reports or events failed.
+fn reported_ended<
+    L: Link + Drop,
+    T: Turn + Drop,
+    K: Waker + Drop,
+    P: ReportClock + Drop,
+    C: Counters + Drop,
+    E: Write,
+>(
+    turns: u64,
+    served: Served<Reported<CountedDisk<FileDisk>, L, T, K, P, C>>,
+    has_failed: bool,
+    errors: &mut E,
+) -> Result<(), CommandFault>
+    ensures told { OnOk result (Appends (E.contents errors.old) (E.contents errors.new) (ended_line turns)) }
+    ensures well { OnOk result (served.fault ≡ None) }
+    ensures end { OnOk result
+        ((served.end.watched.end ≡ ReporterEnd.NoneDue) ⊎ (served.end.watched.end ≡ ReporterEnd.Closed)) }
+    ensures output { OnOk result (has_failed ≡ false) }
+{
+    let Served { end, fault } = served;
+    match fault {
+        None => outputs_ended(turns, end.into_end(), has_failed, errors),
+        Some(fault) => Err(counted_fault_of((fault, end.relayed.finished.journal.into_disk()))),
+    }
+}
+
+/// Logs why a relay whose reporter ended so has ended. Returns an error if an output failed.
+fn outputs_ended<E: Write>(
     turns: u64,
     end: ReporterEnd,
     has_failed: bool,
@@ -206,11 +242,13 @@ fn watch_ended<E: Write>(
     ensures end { OnOk result ((end ≡ ReporterEnd.NoneDue) ⊎ (end ≡ ReporterEnd.Closed)) }
     ensures output { OnOk result (has_failed ≡ false) }
 {
-    reports_ended(turns, end, errors)?;
-    if has_failed {
-        return Err(CommandFault::Text(TextFault::Output));
+    report_end(turns, errors)?;
+    match end {
+        ReporterEnd::NoneDue | ReporterEnd::Closed if !has_failed => Ok(()),
+        ReporterEnd::NoneDue | ReporterEnd::Closed | ReporterEnd::Output => {
+            Err(CommandFault::Text(TextFault::Output))
+        }
     }
-    Ok(())
 }
 
 /// The log on standard error that the workers and the device share.

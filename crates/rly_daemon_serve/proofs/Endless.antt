@@ -82,7 +82,7 @@ or_parts : (a b : Bool) → (a || b) ≡ false → (a ≡ false) × (b ≡ false
 or_parts true b e = absurd (true≢false e)
 or_parts false b e = (refl, e)
 
-and_true : (b : Bool) → (b && true) ≡ b
+pub and_true : (b : Bool) → (b && true) ≡ b
 and_true true = refl
 and_true false = refl
 
@@ -132,28 +132,26 @@ turns_end below plan links params longest (suc n) line names posts ended e some 
 pub posts_are : {A : Type 0} (f : A → Duty) (posts : List A) (plan : ContactPlan) (links : List KeyedWorker) (longest turns : ℕ) → AreKeysOf plan links → map f posts ≡ duties plan links longest turns → length posts ≡ length (workers_of plan)
 posts_are f posts plan links longest turns keys planned = posts_count f posts plan links longest turns keys planned ∙ sym (workers_count plan)
 
--- what the workers did, where each is told to have run until its turns were ended
+-- what the workers did
 pub has_run : {D L C : Type 0} {state : D → DiskState} (below : L → NeighbourLink C) (count seats : ℕ) (plan : ContactPlan) (links : List KeyedWorker) (journal : JournalState D) (turns : ℕ) (posts : List (PostOver L C)) (relayed : Relayed D L (WallClock C) SenderWaker)
     → AreKeysOf plan links → map (duty_over below) posts ≡ duties plan links (longest_message journal.state.params.payload) turns → count ≡ seats
     → IsRelayEnd state (λ l. neighbour_heard (below l)) (λ l. neighbour_sent (below l)) clock_log clock_endless waker_woken plan journal count posts relayed
-    → list_all has_run_out relayed.ended.items ≡ true
     → HasRunOver state below seats plan links journal turns relayed
-has_run {D} {L} {C} {state} below count seats plan links journal turns posts relayed keys planned same end whole = record {
+has_run {D} {L} {C} {state} below count seats plan links journal turns posts relayed keys planned same end = record {
   posts = posts;
   planned = planned;
   count = posts_are (duty_over below) posts plan links (longest_message journal.state.params.payload) turns keys planned;
   end = subst (λ n. IsRelayEnd state (λ l. neighbour_heard (below l)) (λ l. neighbour_sent (below l)) clock_log clock_endless waker_woken plan journal n posts relayed) same end;
-  complete = whole;
 }
 
--- then the turns have an end
+-- if each ran until its turns were ended, the turns have an end
 pub run_ends : {D L C : Type 0} {state : D → DiskState} (below : L → NeighbourLink C) (others seats : ℕ) (plan : ContactPlan) (links : List KeyedWorker) (journal : JournalState D) (turns : ℕ) (relayed : Relayed D L (WallClock C) SenderWaker)
-    → 1 ≤ length plan.peers → seats ≡ length (workers_of plan) + others → HasRunOver state below seats plan links journal turns relayed → 1 ≤ turns
-run_ends below others seats plan links journal turns relayed some are run =
+    → 1 ≤ length plan.peers → seats ≡ length (workers_of plan) + others → HasRunOver state below seats plan links journal turns relayed → relayed.complete ≡ true → 1 ≤ turns
+run_ends below others seats plan links journal turns relayed some are run whole =
     let line = relayed.finished.last.value.line in
     let first : 1 ≤ length run.posts = omega (arith, run.count, workers_count plan, some) in
     let many : length run.posts ≤ length (names_of line.lines) = omega (arith, as_many_names line.lines, run.end.seats, run.count, are) in
-    turns_end below plan links journal.state.params (longest_message journal.state.params.payload) turns line.of (names_of line.lines) run.posts relayed.ended.items run.planned first many run.end.end.worked run.complete
+    turns_end below plan links journal.state.params (longest_message journal.state.params.payload) turns line.of (names_of line.lines) run.posts relayed.ended.items run.planned first many run.end.end.worked (sym run.end.end.complete ∙ whole)
 
 -- a plan has 1 to 64 peers and 1 to 64 hops
 pub posts_between : {A : Type 0} (f : A → Duty) (posts : List A) (plan : ContactPlan) (links : List KeyedWorker) (longest turns most : ℕ) → AreKeysOf plan links → IsSoundPlan plan → map f posts ≡ duties plan links longest turns → 128 ≤ most

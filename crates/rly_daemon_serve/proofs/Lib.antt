@@ -1,4 +1,4 @@
-mod Outcomes
+pub mod Outcomes
 pub mod Endless
 pub mod Tallied
 pub mod ClockStart

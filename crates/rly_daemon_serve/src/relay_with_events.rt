@@ -1,23 +1,22 @@
 //! The running relay with the events of its hops, and a reporter or none, in parallel.
 
-ghost use Rattle.std.specs.Prelude.{◌≡◌, ◌≤◌, ◌+◌, Err, IfOk, None, OnOk, false, length, true};
-ghost use Rattle.std.specs.List.{list_all};
+ghost use Rattle.std.specs.Prelude.{◌≡◌, ◌≤◌, ◌+◌, ◌&&◌, Bool, Err, IfErr, IfOk, None, OnOk, length};
 ghost use Rattle.rly_core.specs.declared.refusal.Refusal.TheVariants as refusal;
 ghost use Rattle.rly_station.specs.declared.serve_fault.ServeFault.TheVariants as fault;
 ghost use Rattle.rly_station.specs.declared.file_fault.Cause.TheVariants as cause;
 ghost use Rattle.rly_station.specs.Keys.{AreKeysOf};
 ghost use Rattle.rly_station.specs.Workers.{workers_of};
 ghost use Rattle.rly_daemon_serve.specs.ReportedRelay.{HasReports};
-ghost use Rattle.rly_daemon_serve.specs.ServedRelay.{FitsPlan, HasRunOver, LacksRoom};
+ghost use Rattle.rly_daemon_serve.specs.ServedRelay.{FitsPlan, HasRunOver, LacksRoom, end_fault};
 ghost use Rattle.rly_plan.specs.Sound.{IsSoundPlan};
 ghost use Rattle.rly_daemon_reporter.specs.TalliedLink.{link_below};
 ghost use Rattle.rly_daemon_reporter.specs.ReporterAtSeat.{HasWatchedAt};
-ghost use Rattle.rly_threads.specs.Relay.{IsRelayEnd, has_run_out};
+ghost use Rattle.rly_threads.specs.Relay.{IsRelayEnd};
 ghost use Rattle.rly_line.specs.EndViews.{names_of};
 ghost use Rattle.rly_line.specs.ResponderView.{IsAnsweredBy};
 
-use crate::reported_relay::{Reports, UdpReported, reported_end, tallied_start};
-use crate::served_relay::RelaySettings;
+use crate::reported_relay::{Reports, UdpReported, served_of, tallied_start};
+use crate::served_relay::{RelaySettings, Served};
 use crate::wall_report_clock::WallReportClock;
 use rly_daemon_events::{HopLines, OutputShare, Rests, SharedOutput};
 use rly_daemon_reporter::{Counters, ReportClock, Reported, run_reported};
@@ -47,7 +46,7 @@ pub struct Events<'e, 'w, W: Write> {
 
 /// The same as `serve_reporting`, with the events of the plan's hops on the output of the reports: the state of each
 /// hop once the startup lines are logged, and then a line at each change, until the relay ends. If the output fails it
-/// serves on without them. If the system has no thread for the events, it returns `Worker` at its end.
+/// serves on without them. If the system has no thread for the events, the fault at its end is `Worker`.
 pub fn serve_with_events<
     'a,
     'o,
@@ -66,25 +65,31 @@ pub fn serve_with_events<
     reports: Reports<'o>,
     events: Events<'_, '_, W>,
     errors: &mut E,
-) -> Result<UdpReported<'a, 'o, D, H>, (ServeFault, D)>
+) -> Result<Served<UdpReported<'a, 'o, D, H>>, (ServeFault, D)>
     requires sound { IsSoundPlan plan.now }
     requires keys { AreKeysOf plan.now keys }
     ensures room { OnOk result (FitsPlan plan.now journal.state.params) }
     ensures lacks { LacksRoom plan.now journal.state.params
         → (result ≡ Err (fault.Refused refusal.BadGeometry cause.Plan, journal.disk)) × (errors.new ≡ errors.old) }
-    // A relay without a limit of turns never ends well.
-    ensures ends { OnOk result (1 ≤ settings.turns) }
-    // Each worker of the plan did at its post and its seat what the plan says of it, as far as its link tells, and the
-    // journal is what its flusher's rounds made of it. The reporter had a seat as well.
+    // On an error the device is as it was: no call of it was made.
+    ensures nothing { IfErr result (λ failed. failed.1 ≡ journal.disk) }
+    // Each worker of the plan that had a thread did at its post and its seat what the plan says of it, as far as its link
+    // tells, and the journal is what its flusher's rounds made of it, also if it broke. The reporter had a seat as well.
     ensures ran { IfOk result
-        (λ r. HasRunOver D.state link_below (length (workers_of plan.now) + 1) plan.now keys.entry journal
-        settings.turns r.relayed) }
-    // The journal isn't broken.
-    ensures whole { IfOk result (λ r. r.relayed.finished.journal.broken ≡ false) }
+        (λ served. HasRunOver D.state link_below (length (workers_of plan.now) + 1) plan.now keys.entry journal
+        settings.turns served.end.relayed) }
+    // It ended well exactly if its journal isn't broken, each worker ran until its turns were ended, the reporter and the
+    // events had a thread each, and all was told.
+    ensures fault { IfOk result (λ served. (events : Bool) × (told : Bool) × (served.fault
+        ≡ end_fault served.end.relayed.finished.broken
+        ((served.end.relayed.complete && served.end.had_thread) && events) told)) }
+    // A relay without a limit of turns never ends well.
+    ensures ends { IfOk result (λ served. served.fault ≡ None → 1 ≤ settings.turns) }
     // A report was made at each due moment, of the answers to the reporter's seat. What an output that is shared holds
     // isn't known.
     ensures reported { IfOk result
-        (λ r. HasReports plan.now r.relayed.finished.last.value.line None None r.watched.seat.value r.watched.end) }
+        (λ served. HasReports plan.now served.end.relayed.finished.last.value.line None None
+        served.end.watched.seat.value served.end.watched.end) }
 {
     let (posts, mut bell, is_told) = match tallied_start(
         rt,
@@ -122,8 +127,8 @@ pub fn serve_with_events<
     )
 }
 
-/// Runs a relay whose workers have these posts, with a reporter and the events of the hops in parallel, and returns the
-/// results of the relay and the reporter if all ended well.
+/// Runs a relay whose workers have these posts, with a reporter and the events of the hops in parallel, and returns its
+/// end.
 fn run_with_events<
     R: Threads + Wait + Clock + Sync,
     D: Disk + Drop,
@@ -147,16 +152,19 @@ fn run_with_events<
     events: Events<'_, '_, W>,
     stop_flag: &OnceLock<bool>,
     is_told: bool,
-) -> Result<Reported<D, L, T, K, P, C>, (ServeFault, D)>
+) -> Result<Served<Reported<D, L, T, K, P, C>>, (ServeFault, D)>
     requires count { (1 ≤ length posts.items) × (length posts.items ≤ 255) }
     requires sound { IsSoundPlan plan.now }
-    ensures end { IfOk result (λ r. IsRelayEnd D.state L.heard L.sent T.told T.endless K.woken plan.now journal
-        (length posts.items + 1) posts.items r.relayed) }
-    ensures complete { IfOk result (λ r. list_all has_run_out r.relayed.ended.items ≡ true) }
-    ensures whole { IfOk result (λ r. r.relayed.finished.journal.broken ≡ false) }
-    ensures watched { IfOk result (λ r. HasWatchedAt P.told C.seen plan.now pace counters
-        r.relayed.finished.last.value.line.of (names_of r.relayed.finished.last.value.line.lines) None None r.watched
-        × IsAnsweredBy r.relayed.finished.last.value.line r.watched.seat.value) }
+    ensures nothing { IfErr result (λ failed. failed.1 ≡ journal.disk) }
+    ensures end { IfOk result (λ served. IsRelayEnd D.state L.heard L.sent T.told T.endless K.woken plan.now journal
+        (length posts.items + 1) posts.items served.end.relayed) }
+    ensures fault { IfOk result (λ served. (events : Bool) × (served.fault
+        ≡ end_fault served.end.relayed.finished.broken
+        ((served.end.relayed.complete && served.end.had_thread) && events) is_told)) }
+    ensures watched { IfOk result (λ served. HasWatchedAt P.told C.seen plan.now pace counters
+        served.end.relayed.finished.last.value.line.of (names_of served.end.relayed.finished.last.value.line.lines)
+        None None served.end.watched
+        × IsAnsweredBy served.end.relayed.finished.last.value.line served.end.watched.seat.value) }
 {
     let (outcome, had_thread) = thread::scope(
         thread::scope_env(),
@@ -170,6 +178,7 @@ fn run_with_events<
                 r.relayed.finished.last.value.line.of (names_of r.relayed.finished.last.value.line.lines) None None
                 r.watched) }
             ensures known { IfOk result.0 (λ r. IsAnsweredBy r.relayed.finished.last.value.line r.watched.seat.value) }
+            ensures refused { IfErr result.0 (λ back. back ≡ journal) }
         {
             relay_in(
                 scope, rt, alloc, journal, gather, plan, posts, bell, pace, counters, events,
@@ -177,7 +186,7 @@ fn run_with_events<
             )
         },
     );
-    reported_end(outcome, had_thread, is_told)
+    served_of(outcome, had_thread, is_told)
 }
 
 /// Runs the relay and its reporter, with the thread of the events in a scope. Returns whether the system had that
@@ -216,6 +225,7 @@ fn relay_in<
     ensures watched { IfOk result.0 (λ r. HasWatchedAt P.told C.seen plan.now pace counters
         r.relayed.finished.last.value.line.of (names_of r.relayed.finished.last.value.line.lines) None None r.watched) }
     ensures known { IfOk result.0 (λ r. IsAnsweredBy r.relayed.finished.last.value.line r.watched.seat.value) }
+    ensures refused { IfErr result.0 (λ back. back ≡ journal) }
 {
     let Events {
         rests,

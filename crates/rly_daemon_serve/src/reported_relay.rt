@@ -1,26 +1,26 @@
 //! The running relay with a reporter in parallel.
 
-ghost use Rattle.std.specs.Prelude.{◌≡◌, ◌≤◌, ◌+◌, ◌∷◌, ◌++◌, [], Err, IfOk, Ok, OnOk, false, length, map, true};
-ghost use Rattle.std.specs.List.{list_all};
+ghost use Rattle.std.specs.Prelude.{◌≡◌, ◌≤◌, ◌+◌, ◌∷◌, ◌++◌, ◌&&◌, [], Bool, Err, IfErr, IfOk, None, Ok, OnOk, length, map};
 ghost use Rattle.rly_core.specs.declared.refusal.Refusal.TheVariants as refusal;
 ghost use Rattle.rly_station.specs.declared.serve_fault.ServeFault.TheVariants as fault;
 ghost use Rattle.rly_station.specs.declared.file_fault.Cause.TheVariants as cause;
 ghost use Rattle.rly_station.specs.Keys.{AreKeysOf};
 ghost use Rattle.rly_daemon_serve.specs.Helpers.{own_station, post_below, station_of};
 ghost use Rattle.rly_daemon_serve.specs.ReportedRelay.{HasReports};
-ghost use Rattle.rly_daemon_serve.specs.ServedRelay.{FitsPlan, HasRunOver, LacksRoom};
+ghost use Rattle.rly_daemon_serve.specs.ServedRelay.{FitsPlan, HasRunOver, LacksRoom, end_fault};
 ghost use Rattle.rly_link_udp.specs.Duties.{duties, duty_over};
 ghost use Rattle.rly_station.specs.Workers.{workers_of};
 ghost use Rattle.rly_hop.specs.Spelling.{longest_message};
+ghost use Rattle.rly_journal.specs.Journal.{JournalState};
 ghost use Rattle.rly_plan.specs.Sound.{IsSoundPlan};
 ghost use Rattle.rly_daemon_reporter.specs.CountedLink.{new_counted};
 ghost use Rattle.rly_daemon_reporter.specs.TalliedLink.{counted_below, link_below};
-ghost use Rattle.rly_threads.specs.Relay.{IsRelayEnd, has_run_out};
+ghost use Rattle.rly_threads.specs.Relay.{IsRelayEnd};
 ghost use Rattle.rly_line.specs.EndViews.{names_of};
 ghost use Rattle.rly_line.specs.ResponderView.{IsAnsweredBy};
 ghost use Rattle.rly_daemon_reporter.specs.ReporterAtSeat.{HasWatchedAt};
 
-use crate::served_relay::{RelaySettings, disk_of, outcome_of, ready_posts, report_start};
+use crate::served_relay::{RelaySettings, Served, end_fault, ready_posts, report_start};
 use crate::wall_report_clock::WallReportClock;
 use rly_daemon_reporter::{Counters, ReportClock, Reported, TalliedLink, Tally, run_reported};
 use rly_disk::Disk;
@@ -67,7 +67,7 @@ pub struct Reports<'o> {
 
 /// The same as `serve`, with a report to a writer at once, and one every `seconds` seconds. If the turns are
 /// limited, the reporter sleeps as often as a worker has turns, and ends then too. If the system has no thread for
-/// the reporter, it serves without reports, and returns `Worker` at its end.
+/// the reporter, it serves without reports, and the fault at its end is `Worker`.
 pub fn serve_reporting<
     'a,
     'o,
@@ -86,26 +86,30 @@ pub fn serve_reporting<
     reports: Reports<'o>,
     writer: &mut W,
     errors: &mut E,
-) -> Result<UdpReported<'a, 'o, D, H>, (ServeFault, D)>
+) -> Result<Served<UdpReported<'a, 'o, D, H>>, (ServeFault, D)>
     requires sound { IsSoundPlan plan.now }
     requires keys { AreKeysOf plan.now keys }
     ensures room { OnOk result (FitsPlan plan.now journal.state.params) }
     ensures lacks { LacksRoom plan.now journal.state.params
         → (result ≡ Err (fault.Refused refusal.BadGeometry cause.Plan, journal.disk))
         × (writer.new ≡ writer.old) × (errors.new ≡ errors.old) }
-    // A relay without a limit of turns never ends well.
-    ensures ends { OnOk result (1 ≤ settings.turns) }
-    // Each worker of the plan did at its post and its seat what the plan says of it, as far as its link tells, and the
-    // journal is what its flusher's rounds made of it. The reporter had a seat as well.
+    // On an error the device is as it was: no call of it was made.
+    ensures nothing { IfErr result (λ failed. failed.1 ≡ journal.disk) }
+    // Each worker of the plan that had a thread did at its post and its seat what the plan says of it, as far as its link
+    // tells, and the journal is what its flusher's rounds made of it, also if it broke. The reporter had a seat as well.
     ensures ran { IfOk result
-        (λ r. HasRunOver D.state link_below (length (workers_of plan.now) + 1) plan.now keys.entry journal
-        settings.turns r.relayed) }
-    // The journal isn't broken.
-    ensures whole { IfOk result (λ r. r.relayed.finished.journal.broken ≡ false) }
+        (λ served. HasRunOver D.state link_below (length (workers_of plan.now) + 1) plan.now keys.entry journal
+        settings.turns served.end.relayed) }
+    // It ended well exactly if its journal isn't broken, each worker ran until its turns were ended, the reporter had a
+    // thread, and all was told.
+    ensures fault { IfOk result (λ served. (told : Bool) × (served.fault
+        ≡ end_fault served.end.relayed.finished.broken (served.end.relayed.complete && served.end.had_thread) told)) }
+    // A relay without a limit of turns never ends well.
+    ensures ends { IfOk result (λ served. served.fault ≡ None → 1 ≤ settings.turns) }
     // The bytes written are a report at each due moment, of the answers to the reporter's seat.
     ensures reported { IfOk result
-        (λ r. HasReports plan.now r.relayed.finished.last.value.line (W.contents writer.old) (W.contents writer.new)
-        r.watched.seat.value r.watched.end) }
+        (λ served. HasReports plan.now served.end.relayed.finished.last.value.line (W.contents writer.old)
+        (W.contents writer.new) served.end.watched.seat.value served.end.watched.end) }
 {
     let (posts, mut bell, is_told) = match tallied_start(
         rt,
@@ -143,8 +147,7 @@ pub fn serve_reporting<
     )
 }
 
-/// Runs a relay whose workers have these posts, with a reporter in parallel, and returns the results of both if
-/// they ended well.
+/// Runs a relay whose workers have these posts, with a reporter in parallel, and returns its end.
 fn run_tallied<
     R: Threads + Wait + Clock + Sync,
     D: Disk + Drop,
@@ -168,27 +171,27 @@ fn run_tallied<
     writer: &mut W,
     stop_flag: &OnceLock<bool>,
     is_told: bool,
-) -> Result<Reported<D, L, T, K, P, C>, (ServeFault, D)>
+) -> Result<Served<Reported<D, L, T, K, P, C>>, (ServeFault, D)>
     requires count { (1 ≤ length posts.items) × (length posts.items ≤ 255) }
     requires sound { IsSoundPlan plan.now }
-    ensures end { IfOk result (λ r. IsRelayEnd D.state L.heard L.sent T.told T.endless K.woken plan.now journal
-        (length posts.items + 1) posts.items r.relayed) }
-    ensures complete { IfOk result (λ r. list_all has_run_out r.relayed.ended.items ≡ true) }
-    ensures whole { IfOk result (λ r. r.relayed.finished.journal.broken ≡ false) }
-    ensures watched { IfOk result (λ r. HasWatchedAt P.told C.seen plan.now pace counters
-        r.relayed.finished.last.value.line.of (names_of r.relayed.finished.last.value.line.lines)
-        (W.contents writer.old) (W.contents writer.new) r.watched
-        × IsAnsweredBy r.relayed.finished.last.value.line r.watched.seat.value) }
+    ensures nothing { IfErr result (λ failed. failed.1 ≡ journal.disk) }
+    ensures end { IfOk result (λ served. IsRelayEnd D.state L.heard L.sent T.told T.endless K.woken plan.now journal
+        (length posts.items + 1) posts.items served.end.relayed) }
+    ensures fault { IfOk result (λ served. served.fault
+        ≡ end_fault served.end.relayed.finished.broken (served.end.relayed.complete && served.end.had_thread) is_told) }
+    ensures watched { IfOk result (λ served. HasWatchedAt P.told C.seen plan.now pace counters
+        served.end.relayed.finished.last.value.line.of (names_of served.end.relayed.finished.last.value.line.lines)
+        (W.contents writer.old) (W.contents writer.new) served.end.watched
+        × IsAnsweredBy served.end.relayed.finished.last.value.line served.end.watched.seat.value) }
 {
     let outcome = run_reported(
         rt, alloc, journal, gather, plan, posts, bell, pace, counters, writer, stop_flag,
     );
-    reported_end(outcome, true, is_told)
+    served_of(outcome, true, is_told)
 }
 
-/// The results of a relay and its reporter if they ended well. `had_thread` is whether the rest of the station had its
-/// threads.
-pub(crate) fn reported_end<
+/// The end of a relay and its reporter. `had_thread` is whether the rest of the station had its threads.
+pub(crate) fn served_of<
     D: Disk + Drop,
     L: Link + Drop,
     T: Turn + Drop,
@@ -199,19 +202,18 @@ pub(crate) fn reported_end<
     outcome: Result<Reported<D, L, T, K, P, C>, Journal<D>>,
     had_thread: bool,
     is_told: bool,
-) -> Result<Reported<D, L, T, K, P, C>, (ServeFault, D)>
-    ensures same { IfOk result (λ r. outcome ≡ Ok r) }
-    ensures complete { IfOk result (λ r. r.relayed.complete ≡ true) }
-    ensures whole { IfOk result (λ r. r.relayed.finished.broken ≡ false) }
-    ensures threads { OnOk result (had_thread ≡ true) }
+) -> Result<Served<Reported<D, L, T, K, P, C>>, (ServeFault, D)>
+    ensures nothing { IfErr result
+        (λ failed. (back : JournalState D) × (outcome ≡ Err back) × (failed.1 ≡ back.disk)) }
+    ensures same { IfOk result (λ served. outcome ≡ Ok served.end) }
+    ensures fault { IfOk result (λ served. served.fault ≡ end_fault served.end.relayed.finished.broken
+        ((served.end.relayed.complete && served.end.had_thread) && had_thread) is_told) }
 {
     match outcome {
-        Ok(reported) => {
-            let is_complete = reported.relayed.complete && reported.had_thread && had_thread;
-            match outcome_of(reported.relayed.finished.broken, is_complete, is_told) {
-                Ok(()) => Ok(reported),
-                Err(fault) => Err((fault, disk_of(reported.relayed))),
-            }
+        Ok(end) => {
+            let is_complete = end.relayed.complete && end.had_thread && had_thread;
+            let fault = end_fault(end.relayed.finished.broken, is_complete, is_told);
+            Ok(Served { end, fault })
         }
         Err(journal) => Err((AllocError.into(), journal.into_disk())),
     }

@@ -1,16 +1,15 @@
 //! The running relay: its requirements on the device, its workers, and its outcome.
 
-ghost use Rattle.std.specs.Prelude.{◌≡◌, ◌≤◌, Err, IfErr, IfOk, IsOk, OnOk, false, length, map, true};
-ghost use Rattle.std.specs.List.{list_all};
+ghost use Rattle.std.specs.Prelude.{◌≡◌, ◌≤◌, Bool, Err, IfErr, IfOk, None, OnOk, false, length, map};
 ghost use Rattle.rly_core.specs.declared.refusal.Refusal.TheVariants as refusal;
 ghost use Rattle.rly_hop.specs.Spelling.{longest_message};
 ghost use Rattle.rly_plan.specs.Sound.{IsSoundPlan};
-ghost use Rattle.rly_daemon_serve.specs.ServedRelay.{FitsPlan, HasRun, LacksRoom};
+ghost use Rattle.rly_daemon_serve.specs.ServedRelay.{FitsPlan, HasRun, LacksRoom, end_fault};
 ghost use Rattle.rly_link_udp.specs.Duties.{duties, duty_at};
 ghost use Rattle.rly_station.specs.Keys.{AreKeysOf};
 ghost use Rattle.rly_station.specs.declared.file_fault.Cause.TheVariants as cause;
 ghost use Rattle.rly_station.specs.declared.serve_fault.ServeFault.TheVariants as fault;
-ghost use Rattle.rly_threads.specs.Relay.{IsRelayEnd, has_run_out};
+ghost use Rattle.rly_threads.specs.Relay.{IsRelayEnd};
 
 use rly_audit::live_items;
 use rly_core::{Params, Refusal};
@@ -39,14 +38,24 @@ pub struct RelaySettings {
     pub gather: Duration,
 }
 
+/// A relay that was started, at its end.
+#[derive(Drop)]
+pub struct Served<R> {
+    /// Its end, with its journal and all its workers.
+    pub end: R,
+    /// Why it didn't end well: `Broken`, `Worker` or `Unreported`.
+    pub fault: Option<ServeFault>,
+}
+
 /// The result of a relay over UDP.
 pub type UdpRelayed<'a, D, H> = Relayed<D, NeighbourLink<&'a H>, WallClock<&'a H>, SenderWaker>;
 
 /// Runs the relay of a plan, with the keys of its links, on a journal until each worker had its turns (0: without
-/// limit), and returns its result. The workers log their warnings on the lines. When ready, it logs what it serves
-/// and the device's size, `size` bytes; if the log fails it still serves, and returns `Unreported` at its end.
-/// Once the journal is broken each worker ends at its next turn, and the error is `Broken`. If the system has no
-/// thread for one of them, the others end at once, and the error is `Worker`. An error hands the disk back.
+/// limit), and returns its end. The workers log their warnings on the lines. When ready, it logs what it serves
+/// and the device's size, `size` bytes; if the log fails it still serves, and the fault at its end is `Unreported`.
+/// Once the journal is broken each worker ends at its next turn, and the fault is `Broken`. If the system has no
+/// thread for one of them, the others end at once, and the fault is `Worker`. An error means that nothing was started,
+/// and hands the disk back.
 pub fn serve<'a, H: AllocGlobal + Net + Threads + Wait + Clock + Sync, D: Disk + Drop, E: Write>(
     rt: &'a H,
     journal: Journal<D>,
@@ -56,19 +65,22 @@ pub fn serve<'a, H: AllocGlobal + Net + Threads + Wait + Clock + Sync, D: Disk +
     size: u64,
     lines: Arc<ErrorLines, Global>,
     errors: &mut E,
-) -> Result<UdpRelayed<'a, D, H>, (ServeFault, D)>
+) -> Result<Served<UdpRelayed<'a, D, H>>, (ServeFault, D)>
     requires sound { IsSoundPlan plan.now }
     requires keys { AreKeysOf plan.now keys }
     ensures room { OnOk result (FitsPlan plan.now journal.state.params) }
     ensures lacks { LacksRoom plan.now journal.state.params
         → (result ≡ Err (fault.Refused refusal.BadGeometry cause.Plan, journal.disk)) × (errors.new ≡ errors.old) }
+    // On an error the device is as it was: no call of it was made.
+    ensures nothing { IfErr result (λ failed. failed.1 ≡ journal.disk) }
+    // Each worker of the plan that had a thread did at its post and its seat what the plan says of it, as far as its link
+    // tells, and the journal is what its flusher's rounds made of it, also if it broke.
+    ensures ran { IfOk result (λ served. HasRun D.state plan.now keys.entry journal settings.turns served.end) }
+    // It ended well exactly if its journal isn't broken, each worker ran until its turns were ended, and all was told.
+    ensures fault { IfOk result
+        (λ served. (told : Bool) × (served.fault ≡ end_fault served.end.finished.broken served.end.complete told)) }
     // A relay without a limit of turns never ends well.
-    ensures ends { OnOk result (1 ≤ settings.turns) }
-    // Each worker of the plan did at its post and its seat what the plan says of it, as far as its link tells, and the
-    // journal is what its flusher's rounds made of it.
-    ensures ran { IfOk result (λ relayed. HasRun D.state plan.now keys.entry journal settings.turns relayed) }
-    // The journal isn't broken.
-    ensures whole { IfOk result (λ relayed. relayed.finished.journal.broken ≡ false) }
+    ensures ends { IfOk result (λ served. served.fault ≡ None → 1 ≤ settings.turns) }
 {
     let (posts, mut bell) = match ready_posts(rt, &journal, plan, keys, settings.turns, lines) {
         Ok(ready) => ready,
@@ -87,7 +99,7 @@ pub fn serve<'a, H: AllocGlobal + Net + Threads + Wait + Clock + Sync, D: Disk +
     )
 }
 
-/// Runs a relay whose workers have these posts, and returns its result if it ended well.
+/// Runs a relay whose workers have these posts, and returns its end.
 fn run_posts<
     R: Threads + Wait + Clock + Sync,
     D: Disk + Drop,
@@ -104,28 +116,22 @@ fn run_posts<
     posts: Vec<Post<L, T, K>>,
     bell: &mut B,
     is_told: bool,
-) -> Result<Relayed<D, L, T, K>, (ServeFault, D)>
+) -> Result<Served<Relayed<D, L, T, K>>, (ServeFault, D)>
     requires count { (1 ≤ length posts.items) × (length posts.items ≤ 256) }
     requires sound { IsSoundPlan plan.now }
-    ensures end { IfOk result (λ relayed. IsRelayEnd D.state L.heard L.sent T.told T.endless K.woken plan.now journal
-        (length posts.items) posts.items relayed) }
-    ensures complete { IfOk result (λ relayed. list_all has_run_out relayed.ended.items ≡ true) }
-    ensures whole { IfOk result (λ relayed. relayed.finished.journal.broken ≡ false) }
+    ensures nothing { IfErr result (λ failed. failed.1 ≡ journal.disk) }
+    ensures end { IfOk result (λ served. IsRelayEnd D.state L.heard L.sent T.told T.endless K.woken plan.now journal
+        (length posts.items) posts.items served.end) }
+    ensures fault { IfOk result
+        (λ served. served.fault ≡ end_fault served.end.finished.broken served.end.complete is_told) }
 {
     match run_relay(rt, alloc, journal, gather, plan, posts, bell) {
-        Ok(relayed) => match outcome_of(relayed.finished.broken, relayed.complete, is_told) {
-            Ok(()) => Ok(relayed),
-            Err(fault) => Err((fault, disk_of(relayed))),
-        },
+        Ok(end) => {
+            let fault = end_fault(end.finished.broken, end.complete, is_told);
+            Ok(Served { end, fault })
+        }
         Err(journal) => Err((AllocError.into(), journal.into_disk())),
     }
-}
-
-/// The disk of a relay that has ended.
-pub(crate) fn disk_of<D: Disk + Drop, L: Link + Drop, T: Turn + Drop, K: Waker + Drop>(
-    relayed: Relayed<D, L, T, K>,
-) -> D {
-    relayed.finished.journal.into_disk()
 }
 
 /// The workers of a plan for whose neighbours a journal has room, each with its link and its clock. A broken
@@ -219,26 +225,19 @@ fn check_room(plan: &Plan, params: Params) -> Result<(), ServeFault>
     Ok(())
 }
 
-/// The outcome of a relay that was started. `is_told` is whether the startup lines were written.
-pub(crate) fn outcome_of(
-    is_broken: bool,
-    is_complete: bool,
-    is_told: bool,
-) -> Result<(), ServeFault>
-    ensures broken { is_broken ≡ true → result ≡ Err (fault.Refused refusal.Broken cause.NoCause) }
-    ensures worker { is_broken ≡ false → is_complete ≡ false → result ≡ Err fault.Worker }
-    ensures untold { is_broken ≡ false → is_complete ≡ true → is_told ≡ false → result ≡ Err fault.Unreported }
-    ensures well { is_broken ≡ false → is_complete ≡ true → is_told ≡ true → IsOk result }
-    ensures ok { OnOk result ((is_broken ≡ false) × (is_complete ≡ true) × (is_told ≡ true)) }
+/// Why a relay that was started didn't end well: its journal broke, or not all had a thread and ran until their turns
+/// ran out, or the startup lines weren't written.
+pub(crate) fn end_fault(is_broken: bool, is_complete: bool, is_told: bool) -> Option<ServeFault>
+    ensures { result ≡ end_fault is_broken is_complete is_told }
 {
     if is_broken {
-        return Err(ServeFault::Refused(Refusal::Broken, Cause::NoCause));
+        return Some(ServeFault::Refused(Refusal::Broken, Cause::NoCause));
     }
     if !is_complete {
-        return Err(ServeFault::Worker);
+        return Some(ServeFault::Worker);
     }
     if !is_told {
-        return Err(ServeFault::Unreported);
+        return Some(ServeFault::Unreported);
     }
-    Ok(())
+    None
 }

@@ -1,32 +1,34 @@
-use Rattle.std.proofs.Common.{◌≡◌, ◌⊎◌, None, subst}
-use Rattle.rly_daemon.proofs.Outcomes.{left_whole, then_both}
-use Rattle.rly_daemon_reporter.specs.declared.reporter.ReporterEnd.TheVariants.{Closed, NoneDue}
+use Rattle.std.proofs.Common.{◌∙◌, None, sym}
+use Rattle.rly_daemon.proofs.Outcomes.{left_whole, then_each}
+use Rattle.rly_daemon_serve.proofs.Outcomes.{well_is_whole}
 use Rattle.rly_daemon.specs.Program.{HasServedReporting}
 use Rattle.rly_daemon.proofs.serve_command.watch_plan.Goals as goal
 
 pub returns-in-Ok : goal.returns-in-Ok
 returns-in-Ok g c =
     let relay = c.in-Ok in
+    let relayed = relay.served.end.relayed in
+    let end = relay.ensures.ran.end in
     record {
-      served = then_both {Z = HasServedReporting c.args.settings.turns None None (g.E.Write.contents c.watch_ended.new.errors)} c.watch_ended.result c.watch_ended.ensures.told c.watch_ended.ensures.end (λ told end. record {
+      served = then_each {V = HasServedReporting c.args.settings.turns None None (g.E.Write.contents c.reported_ended.new.errors)} c.reported_ended.result c.reported_ended.ensures.told c.reported_ended.ensures.well c.reported_ended.ensures.end (λ told well all. record {
         plan = c.args.plan.now;
-        left = relay.reported.relayed.finished.last.value;
+        left = relayed.finished.last.value;
         served = record {
           opened = c.in_ok-journal.journal;
           room = relay.ensures.room;
-          ends = relay.ensures.ends;
+          ends = relay.ensures.ends well;
           begun = c.in_ok-journal.ensures.whole;
-          whole = left_whole relay.reported.relayed.finished.last.value.journal relay.reported.relayed.finished.journal relay.ensures.ran.end.end.left relay.ensures.whole;
-          line = relay.ensures.ran.end.line;
-          names = relay.ensures.ran.end.names;
-          seats = relay.ensures.ran.end.many;
-          served = relay.ensures.ran.end.end.served;
+          whole = left_whole relayed.finished.last.value.journal relayed.finished.journal end.end.left (sym end.end.broken ∙ well_is_whole _ _ _ (sym relay.ensures.fault.2 ∙ well));
+          line = end.line;
+          names = end.names;
+          seats = end.many;
+          served = end.end.served;
           begins = g.E.Write.contents c.serve_with_events.new.errors;
           told = told;
         };
-        seat = relay.reported.watched.seat.value;
-        end = relay.reported.watched.end;
-        all = subst (λ why. (why ≡ NoneDue) ⊎ (why ≡ Closed)) c.into_end.ensures end;
+        seat = relay.served.end.watched.seat.value;
+        end = relay.served.end.watched.end;
+        all = all;
         reports = relay.ensures.reported;
       });
     }

@@ -1,11 +1,13 @@
 use denote.Exit.{no}
 use denote.Param.Send.{arg_send, param_send, param_sync, shr_send}
-use Rattle.std.proofs.Common.{◌+◌, length, None, refl}
+use Rattle.std.proofs.Common.{◌+◌, ◌∙◌, length, None, refl, sym}
+use Rattle.std.proofs.lemmas.Bool.{and_parts}
 use Rattle.rly_daemon_serve.specs.WallReportClock.{due_moments}
 use Rattle.rly_daemon_serve.proofs.Endless.{and_one, below_255, both_then, has_run, ok_then, on_ok, posts_are, posts_between, run_ends}
 use Rattle.rly_link_udp.proofs.Sending.{neighbour_send}
 use Rattle.rly_daemon_serve.proofs.Tallied.{tallied_send}
 use Rattle.rly_daemon_serve.proofs.ClockStart.{told_from}
+use Rattle.rly_daemon_serve.proofs.Outcomes.{well_is_complete}
 use Rattle.rly_link_udp.specs.Duties.{duty_over}
 use Rattle.rly_station.specs.Workers.{workers_of}
 use Rattle.rly_hop.specs.Spelling.{longest_message}
@@ -21,20 +23,24 @@ pub returns-clause-room : goal.returns-clause-room
 returns-clause-room g c = on_ok c.run_with_events.result c.in-Ok.ensures.room
 
 pub returns-clause-ends : goal.returns-clause-ends
-returns-clause-ends g c = both_then c.run_with_events.result c.run_with_events.ensures.end c.run_with_events.ensures.complete (λ r end complete.
-    run_ends link_below 1 _ c.args.plan.now c.args.keys c.args.journal c.args.settings.turns r.relayed c.requires.sound.peer_count.0 refl
-    (has_run link_below _ (length (workers_of c.args.plan.now) + 1) c.args.plan.now c.args.keys c.args.journal c.args.settings.turns c.in-Ok.started.0.items r.relayed c.requires.keys c.in-Ok.ensures.posts
-    (and_one _ _ (posts_are (duty_over link_below) c.in-Ok.started.0.items c.args.plan.now c.args.keys _ c.args.settings.turns c.requires.keys c.in-Ok.ensures.posts)) end complete))
+returns-clause-ends g c = both_then c.run_with_events.result c.run_with_events.ensures.end c.run_with_events.ensures.fault (λ served end is none.
+    run_ends link_below 1 _ c.args.plan.now c.args.keys c.args.journal c.args.settings.turns served.end.relayed c.requires.sound.peer_count.0 refl
+    (has_run link_below _ (length (workers_of c.args.plan.now) + 1) c.args.plan.now c.args.keys c.args.journal c.args.settings.turns c.in-Ok.started.0.items served.end.relayed c.requires.keys c.in-Ok.ensures.posts
+    (and_one _ _ (posts_are (duty_over link_below) c.in-Ok.started.0.items c.args.plan.now c.args.keys _ c.args.settings.turns c.requires.keys c.in-Ok.ensures.posts)) end)
+    (and_parts _ _ (and_parts _ _ (well_is_complete _ _ _ (sym is.1 ∙ none))).0).0)
 
 -- as many seats as workers, and one more
 pub returns-clause-ran : goal.returns-clause-ran
-returns-clause-ran g c = both_then c.run_with_events.result c.run_with_events.ensures.end c.run_with_events.ensures.complete (λ r end complete.
-    has_run link_below _ (length (workers_of c.args.plan.now) + 1) c.args.plan.now c.args.keys c.args.journal c.args.settings.turns c.in-Ok.started.0.items r.relayed c.requires.keys c.in-Ok.ensures.posts
-    (and_one _ _ (posts_are (duty_over link_below) c.in-Ok.started.0.items c.args.plan.now c.args.keys _ c.args.settings.turns c.requires.keys c.in-Ok.ensures.posts)) end complete)
+returns-clause-ran g c = ok_then c.run_with_events.result c.run_with_events.ensures.end (λ served end.
+    has_run link_below _ (length (workers_of c.args.plan.now) + 1) c.args.plan.now c.args.keys c.args.journal c.args.settings.turns c.in-Ok.started.0.items served.end.relayed c.requires.keys c.in-Ok.ensures.posts
+    (and_one _ _ (posts_are (duty_over link_below) c.in-Ok.started.0.items c.args.plan.now c.args.keys _ c.args.settings.turns c.requires.keys c.in-Ok.ensures.posts)) end)
+
+pub returns-clause-fault : goal.returns-clause-fault
+returns-clause-fault g c = ok_then c.run_with_events.result c.run_with_events.ensures.fault (λ served is. (is.0, _, is.1))
 
 -- its schedule was new
 pub returns-clause-reported : goal.returns-clause-reported
-returns-clause-reported g c = ok_then c.run_with_events.result c.run_with_events.ensures.watched (λ r did.
+returns-clause-reported g c = ok_then c.run_with_events.result c.run_with_events.ensures.watched (λ served did.
     let watched = did.0 in
     record {
       first = watched.0;
@@ -42,8 +48,8 @@ returns-clause-reported g c = ok_then c.run_with_events.result c.run_with_events
       asked = watched.2.asked;
       put = watched.2.put;
       known = did.1;
-      moments = due_moments r.watched.pace.told;
-      reported = told_from c.args.plan.now watched.2.asked (due_moments c.new-pace.result.told) (due_moments r.watched.pace.told) None None r.watched.end c.new-pace.ensures watched.2.reported;
+      moments = due_moments served.end.watched.pace.told;
+      reported = told_from c.args.plan.now watched.2.asked (due_moments c.new-pace.result.told) (due_moments served.end.watched.pace.told) None None served.end.watched.end c.new-pace.ensures watched.2.reported;
     })
 
 -- a worker's link goes to its thread

@@ -1,7 +1,8 @@
 use denote.Exit.{no}
 use denote.Param.Send.{arg_send, param_send, param_sync, shr_send}
-use Rattle.std.proofs.Common.{length}
-use Rattle.rly_daemon_serve.proofs.Endless.{and_none, below_256, both_then, has_run, on_ok, posts_are, posts_between, run_ends}
+use Rattle.std.proofs.Common.{◌∙◌, length, sym}
+use Rattle.rly_daemon_serve.proofs.Endless.{and_none, below_256, both_then, has_run, ok_then, on_ok, posts_are, posts_between, run_ends}
+use Rattle.rly_daemon_serve.proofs.Outcomes.{well_is_complete}
 use Rattle.rly_link_udp.proofs.Sending.{neighbour_send}
 use Rattle.rly_link_udp.specs.Duties.{duty_at}
 use Rattle.rly_station.specs.Workers.{workers_of}
@@ -22,13 +23,17 @@ pub returns-clause-room : goal.returns-clause-room
 returns-clause-room g c = on_ok c.run_posts.result c.in-Ok.ensures.room
 
 pub returns-clause-ends : goal.returns-clause-ends
-returns-clause-ends g c = both_then c.run_posts.result c.run_posts.ensures.end c.run_posts.ensures.complete (λ relayed end complete.
-    run_ends (λ l. l) 0 _ c.args.plan.now c.args.keys c.args.journal c.args.settings.turns relayed c.requires.sound.peer_count.0 (and_none _)
-    (has_run (λ l. l) _ (length (workers_of c.args.plan.now)) c.args.plan.now c.args.keys c.args.journal c.args.settings.turns c.in-Ok.ready.0.items relayed c.requires.keys c.in-Ok.ensures.posts
-    (posts_are duty_at c.in-Ok.ready.0.items c.args.plan.now c.args.keys _ c.args.settings.turns c.requires.keys c.in-Ok.ensures.posts) end complete))
+returns-clause-ends g c = both_then c.run_posts.result c.run_posts.ensures.end c.run_posts.ensures.fault (λ served end is none.
+    run_ends (λ l. l) 0 _ c.args.plan.now c.args.keys c.args.journal c.args.settings.turns served.end c.requires.sound.peer_count.0 (and_none _)
+    (has_run (λ l. l) _ (length (workers_of c.args.plan.now)) c.args.plan.now c.args.keys c.args.journal c.args.settings.turns c.in-Ok.ready.0.items served.end c.requires.keys c.in-Ok.ensures.posts
+    (posts_are duty_at c.in-Ok.ready.0.items c.args.plan.now c.args.keys _ c.args.settings.turns c.requires.keys c.in-Ok.ensures.posts) end)
+    (well_is_complete _ _ _ (sym is ∙ none)))
 
 -- as many seats as workers
 pub returns-clause-ran : goal.returns-clause-ran
-returns-clause-ran g c = both_then c.run_posts.result c.run_posts.ensures.end c.run_posts.ensures.complete (λ relayed end complete.
-    has_run (λ l. l) _ (length (workers_of c.args.plan.now)) c.args.plan.now c.args.keys c.args.journal c.args.settings.turns c.in-Ok.ready.0.items relayed c.requires.keys c.in-Ok.ensures.posts
-    (posts_are duty_at c.in-Ok.ready.0.items c.args.plan.now c.args.keys _ c.args.settings.turns c.requires.keys c.in-Ok.ensures.posts) end complete)
+returns-clause-ran g c = ok_then c.run_posts.result c.run_posts.ensures.end (λ served end.
+    has_run (λ l. l) _ (length (workers_of c.args.plan.now)) c.args.plan.now c.args.keys c.args.journal c.args.settings.turns c.in-Ok.ready.0.items served.end c.requires.keys c.in-Ok.ensures.posts
+    (posts_are duty_at c.in-Ok.ready.0.items c.args.plan.now c.args.keys _ c.args.settings.turns c.requires.keys c.in-Ok.ensures.posts) end)
+
+pub returns-clause-fault : goal.returns-clause-fault
+returns-clause-fault g c = ok_then c.run_posts.result c.run_posts.ensures.fault (λ served is. (_, is))
