@@ -97,6 +97,11 @@ fn waited_for<R: Abort + Wait>(rt: &R, alloc: Global, waiting: WaitingSeat, firs
     seat
 }
 
+/// The seat after it submitted two takes of peer 1, and waited for their answers.
+fn put_and_wait<R: Abort + Wait>(rt: &R, alloc: Global, seat: Seat, first: u64) -> Seat {
+    waited_for(rt, alloc, put_two(rt, alloc, seat, 1, first), first)
+}
+
 /// A flusher over a new journal, and two seats.
 fn two_seats<R: Abort>(rt: &R, alloc: Global) -> (Seat, Seat, Flusher<MemDisk>) {
     let journal = new_journal(rt, alloc, &DEVICE);
@@ -120,9 +125,8 @@ fn expect_one_thread<R: Abort + Threads + Wait + std::time::Clock + Copy + Send 
     expect!(rt; flusher.round(&rt));
     let second = taken_of(&rt, alloc, second, 1);
     let first = taken_of(&rt, alloc, first, 1);
-    // The first seat goes on alone, and another thread waits for its answers.
-    let first = put_two(&rt, alloc, first, 1, 3);
-    let asked = thread::spawn(&rt, move || waited_for(&rt, alloc, first, 3))
+    // The first seat goes on in another thread, which waits for its answers.
+    let asked = thread::spawn(&rt, move || put_and_wait(&rt, alloc, first, 3))
         .ok()
         .expect(&rt, "a thread");
     expect!(rt; flusher.round(&rt));
