@@ -302,10 +302,9 @@ class Counts(Stations):
         self.make_small("device")
         self.write("link.key", KEY)
         key = 'key = "link.key"\n'
-        self.write("plan", PLAN.format(*self.ports).replace("[[hop]]", key + "[[hop]]") + key)
+        self.write("plan", PLAN.format(*self.ports).replace("[[hop]]", key + "[[hop]]").replace("contacts", key + "contacts"))
         run = self.start("serve", "device", "plan", "--report=1")
-        while not run.stderr.readline().startswith(b"rly: serving"):
-            pass
+        self.assertIn(b"rly: serving", run.stderr.readline())
         with socket.socket(socket.AF_INET, socket.SOCK_DGRAM) as end:
             for port, count in [(self.ports[0], 3), (self.ports[2], 2)]:
                 for _packet in range(count):
