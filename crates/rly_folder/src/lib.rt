@@ -1,6 +1,6 @@
 //! The folder model: the calls of a folder of files, the changes that other programs make between
 //! them, and the files that a crash may leave at any moment. It is for a folder that plays a
-//! neighbour station; no crate uses it yet.
+//! neighbour station (`rly_link_folder`).
 //!
 //! The contract of `trait Folder` is the model (`specs/FolderModel.antt`,
 //! `specs/FolderCalls.antt`). A file gets its name only once its bytes are durable (`write`, then

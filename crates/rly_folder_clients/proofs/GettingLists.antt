@@ -1,16 +1,18 @@
 -- The calls of a reader as lists.
-use Rattle.std.proofs.Common.{[], arith, Bool, false, true, inl, inr, is_ok, length, List, None, refl, Some, suc, sym, take, ℕ, Option, get_or, ⊎_elim, ◌++◌, ◌+◌, ◌∷◌, ◌<◌, ◌≡◌, ◌≤◌, ◌⊎◌, ◌∙◌}
+use Rattle.std.proofs.Common.{[], arith, Bool, false, true, inl, inr, is_ok, length, List, None, refl, Some, subst, suc, sym, take, ℕ, Option, get_or, ⊎_elim, ◌++◌, ◌+◌, ◌∷◌, ◌<◌, ◌≡◌, ◌≤◌, ◌⊎◌, ◌∙◌}
 use Rattle.std.proofs.lemmas.Bool.Decides.{nat_tests}
 use Rattle.std.proofs.lemmas.List.{append-nil, append_assoc, length-append, length-take, take_all, take_more}
 use Rattle.std.proofs.KnownBytes.{Appends-nil, Appends-trans}
-use Rattle.std.specs.Io.KnownBytes.{Appends}
-use Rattle.std.specs.Prelude.{Err, IfErr, IfOk, if◌then◌else◌, is_err, IsErrAnd, is_some, nat_lt, Ok, option_map, Result}
+use Rattle.std.specs.Io.KnownBytes.{Appends, Keeps as KeepsBytes}
+use Rattle.std.specs.Prelude.{Err, IfErr, IfOk, if◌then◌else◌, is_err, IsErrAnd, is_some, nat_lt, Ok, OnErr, option_map, Result}
+use Rattle.rly_daemon_reply.proofs.Flows.{begins_broken, begins_kept, begins_more}
+use Rattle.rly_daemon_reply.specs.Beginnings.{AppendsBeginning, BreaksOff}
 use Rattle.rly_folder.specs.FolderCalls.{Did, Faulted, Makes, Remove}
 use Rattle.rly_folder.specs.FolderModel.{FolderState}
 use Rattle.rly_folder.specs.Names.{name_of}
 use Rattle.rly_folder.specs.declared.name.Area.TheVariants.{Out}
 use Rattle.rly_folder_clients.specs.Forms.{bytes_of, bytes_of_each, if_any}
-use Rattle.rly_folder_clients.specs.Getting.{AtFile, AtFinish, AtOld, AtOutput, Finishes, Handles, HandlesEach, HandlesOne, HandlesSome, if_done, is_too_long, IsNext, IsOld, Keeps, last_after, Begins, Opens, Prints, Reads, StopsAmong, StopsAt, StopsGet, StopsOne, Wrote}
+use Rattle.rly_folder_clients.specs.Getting.{AtFile, AtFinish, AtOld, AtOutput, Finishes, Handles, HandlesEach, HandlesOne, HandlesSome, if_done, is_too_long, IsNext, IsOld, Keeps, last_after, Begins, Opens, Prints, Reads, StopsAmong, StopsAt, StopsGet, StopsOne}
 use Rattle.rly_folder_clients.specs.declared.getting.GetFault.{GetFault}
 use Rattle.rly_folder_clients.specs.declared.getting.GetFault.TheVariants as fault
 use Rattle.rly_folder_clients.specs.Runs.{Runs, Step}
@@ -91,6 +93,19 @@ wrote_more form a b c xs ys one two = rw (bytes_append form xs ys) (Appends-tran
 wrote_one : (form : Form) (a b : Option (List ℕ)) (payload : List ℕ) → Appends a b (bytes_of form payload) → Appends a b (bytes_of_each form (if_any (Some payload)))
 wrote_one form a b payload one = rw (append-nil (bytes_of form payload)) one
 
+-- ---- a payload whose output failed, at what stands behind its bytes, or at the flush
+
+pub rest_broken : (a b c : Option (List ℕ)) (front rest : List ℕ) → Appends a b front → BreaksOff b c rest → AppendsBeginning a c (front ++ rest)
+rest_broken a b c front rest wrote broken = begins_more a b c front rest wrote (begins_broken b c rest broken)
+
+pub not_flushed : (a b c d : Option (List ℕ)) (front rest : List ℕ) → Appends a b front → Appends b c rest → KeepsBytes c d → AppendsBeginning a d (front ++ rest)
+not_flushed a b c d front rest one two kept =
+    subst (λ (bytes : List ℕ). AppendsBeginning a d bytes) (append-nil (front ++ rest)) (begins_more a c d (front ++ rest) [] (Appends-trans a b c front rest one two) (begins_kept c d [] kept))
+
+pub always_err : {A E X : Type 0} (result : Result A E) → X → OnErr result X
+always_err (Ok x) holds = tt
+always_err (Err e) holds = holds
+
 -- ---- one file
 
 module _ {D : Type 0} (state : D → FolderState) (form : Form) (last number : ℕ) where
@@ -120,8 +135,8 @@ module _ {D : Type 0} (state : D → FolderState) (form : Form) (last number : �
     printed_err wrote (Err why) kept = (Some payload, AtFinish above kept.0 payload refl (prints false kept.1), (rw kept.0 (wrote_one form written writes payload wrote)))
 
   pub output_err : {a b : D} (written writes : Option (List ℕ)) → last < number → (payload : List ℕ) → Reads state number (Some payload) a b
-      → StopsOne state form last number fault.Output written writes a b
-  output_err written writes above payload reads = (None, AtOutput above refl refl payload reads, tt)
+      → AppendsBeginning written writes (bytes_of form payload) → StopsOne state form last number fault.Output written writes a b
+  output_err written writes above payload reads begun = (Some payload, AtOutput above refl payload refl reads, (rw (append-nil (bytes_of form payload)) begun))
 
 -- ---- the files of a list
 
@@ -170,11 +185,6 @@ module _ {D : Type 0} (state : D → FolderState) (form : Form) (first : ℕ) (n
     wrote = done.wrote;
   }
 
-  wrote_so : (why : GetFault) (a b c : Option (List ℕ)) (xs ys : List (List ℕ)) → Appends a b (bytes_of_each form xs) → Wrote why b c (bytes_of_each form ys) → Wrote why a c (bytes_of_each form (xs ++ ys))
-  wrote_so fault.Folder a b c xs ys one two = wrote_more form a b c xs ys one two
-  wrote_so fault.TooLong a b c xs ys one two = wrote_more form a b c xs ys one two
-  wrote_so fault.Output a b c xs ys one two = tt
-
   pub stops_among : (i last number count : ℕ) (why : GetFault) (written middle writes : Option (List ℕ)) {a m b : D} → i < length numbers → number ≡ get_or numbers i 0
       → Handled i last count written middle a m → StopsOne state form last number why middle writes m b → StopsAmong state form first numbers why written writes a b
   stops_among i last number count why written middle writes {a} {m} {b} lt at done one = record {
@@ -186,7 +196,9 @@ module _ {D : Type 0} (state : D → FolderState) (form : Form) (first : ℕ) (n
     among = lt;
     one = one.0;
     stops = rw (← at) one.1;
-    wrote = wrote_so why written middle writes done.printed (if_any one.0) done.wrote one.2;
+    between = middle;
+    before = done.wrote;
+    wrote = one.2;
   }
 
   pub stops_on_err : {X : Type 0} (result : Result X GetFault) (why : GetFault) (written writes : Option (List ℕ)) {a b : D} → IsErrAnd result (λ e. e ≡ why)

@@ -120,7 +120,7 @@ module _ {D : Type 0} (state : D → FolderState) (consistent : (folder : D) →
       → Holds (Unread waits last) (state a) → Stays (UnreadFrom waits last number) (state a) (state b)
   file_stops last number why printed (AtRead above is fails) kept holds =
       stays_more (Unread waits last) (UnreadFrom waits last number) _ _ (λ c p. inl p) (failed_read last number why fails kept holds)
-  file_stops last number why printed (AtOutput above because is payload reads) kept holds = stays_more (Unread waits last) (UnreadFrom waits last number) _ _ (λ c p. inl p)
+  file_stops last number why printed (AtOutput above because payload is reads) kept holds = stays_more (Unread waits last) (UnreadFrom waits last number) _ _ (λ c p. inl p)
       (quiet state consistent waits given spares last (ReadFile (name_of Out number)) Did (λ now c. refl) reads.makes kept holds)
   file_stops last number why printed (AtFinish above because payload is prints) kept holds =
       (printing state consistent waits given spares last number above payload false prints kept holds).stays

@@ -1,7 +1,8 @@
 -- The calls that hand the files of `out/` on, one after another.
 use Rattle.std.specs.Prelude.{◌≡◌, ◌⊎◌, ◌≤◌, ◌<◌, ◌+◌, ◌-◌, ℕ, Bool, true, false, if◌then◌else◌, List, [], ◌∷◌, ◌++◌, get_or, length, take}
-use Rattle.std.specs.Prelude.{Option, None, Some, Result, is_some, nat_lt, ⊤}
+use Rattle.std.specs.Prelude.{Option, None, Some, Result, is_some, nat_lt}
 use Rattle.std.specs.Io.KnownBytes.{Appends}
+use Rattle.rly_daemon_reply.specs.Beginnings.{AppendsBeginning}
 use Rattle.rly_folder.specs.FolderCalls.{Did, Faulted, Link, ListNames, Makes, Outcome, ReadFile, Refrained, Remove, Rename, Sync, WriteHidden, outcome_of}
 use Rattle.rly_folder.specs.FolderModel.{FolderState, IsListing}
 use Rattle.rly_folder.specs.Names.{name_of}
@@ -87,8 +88,8 @@ pub data StopsAt {D : Type 0} (state : D → FolderState) (last number : ℕ) (w
     (old new : D) : Type 0 where
   AtRead : last < number → printed ≡ None → FailsToRead state number why old new
       → StopsAt state last number why printed old new
-  -- it may have been printed
-  AtOutput : last < number → why ≡ fault.Output → printed ≡ None → (payload : List ℕ)
+  -- some of it was printed, or all
+  AtOutput : last < number → why ≡ fault.Output → (payload : List ℕ) → printed ≡ Some payload
       → Reads state number (Some payload) old new → StopsAt state last number why printed old new
   -- it was printed, and will be again unless its number was kept
   AtFinish : last < number → why ≡ fault.Folder → (payload : List ℕ) → printed ≡ Some payload
@@ -108,11 +109,11 @@ HandlesEach {D} state first (number ∷ numbers) printed last old new =
     × Handles state first number one old next
     × HandlesEach state (last_after first number one) numbers rest last next new
 
--- these bytes were written and flushed, unless the output failed
+-- these bytes were written and flushed, or a beginning of them if the output failed
 abbrev pub Wrote : GetFault → Option (List ℕ) → Option (List ℕ) → List ℕ → Type 0
 Wrote fault.Folder old new bytes = Appends old new bytes
 Wrote fault.TooLong old new bytes = Appends old new bytes
-Wrote fault.Output old new bytes = ⊤
+Wrote fault.Output old new bytes = AppendsBeginning old new bytes
 
 -- a file was handled, and its bytes written if it was printed
 abbrev pub HandlesOne : {D : Type 0} → (D → FolderState) → Form → ℕ → ℕ → Bool → Option (List ℕ) → Option (List ℕ)
@@ -150,7 +151,10 @@ pub record StopsAmong {D : Type 0} (state : D → FolderState) (form : Form) (fi
   pub among : done < length numbers
   pub one : Option (List ℕ)
   pub stops : StopsAt state last (get_or numbers done 0) why one stopped new
-  pub wrote : Wrote why written writes (bytes_of_each form (printed ++ if_any one))
+  -- what was written before this one
+  pub between : Option (List ℕ)
+  pub before : Appends written between (bytes_of_each form printed)
+  pub wrote : Wrote why between writes (bytes_of_each form (if_any one))
 
 -- the number of the last file that was printed, as a sync made it durable: 0 if there is none
 pub record Opens {D : Type 0} (state : D → FolderState) (last : ℕ) (old new : D) : Type 0 where

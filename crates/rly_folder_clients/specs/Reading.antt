@@ -75,7 +75,7 @@ abbrev pub OthersInStop : {D : Type 0} {state : D → FolderState} {last number 
     → (Name → Option (List ℕ) → Bool) → StopsAt state last number why printed old new → Type 0
 OthersInStop {state = state} {number = number} {why} {old = old} {new} given (AtRead above is fails) =
     OthersInFailedRead state given number why old new fails
-OthersInStop given (AtOutput above because is payload reads) = OthersGive given reads.makes.events
+OthersInStop given (AtOutput above because payload is reads) = OthersGive given reads.makes.events
 OthersInStop given (AtFinish above because payload is prints) = OthersInPrint given prints
 OthersInStop given (AtOld below because is removes) = OthersGive given removes.events
 

@@ -1,9 +1,10 @@
 // Prints payloads.
-ghost use Rattle.std.specs.Prelude.{◌≡◌, OnOk, drop, if◌then◌else◌};
+ghost use Rattle.std.specs.Prelude.{◌≡◌, OnErr, OnOk, drop, if◌then◌else◌};
 ghost use Rattle.std.specs.Io.KnownBytes.{Appends};
+ghost use Rattle.rly_daemon_reply.specs.Beginnings.{AppendsBeginning};
 ghost use Rattle.rly_folder_clients.specs.Forms.{bytes_of, newline_if};
 
-use std::io;
+use rly_daemon_reply::{StreamFault, write_whole};
 use std::io::Write;
 
 /// The bytes of a destination, at the front of a file.
@@ -18,13 +19,18 @@ pub struct Form {
     pub lines: bool,
 }
 
-/// Writes and flushes a payload. After an `Err` some of it may have been written.
-pub(crate) fn print<W: Write>(out: &mut W, form: Form, payload: &[u8]) -> io::Result<()>
-    ensures { OnOk result (Appends (W.contents out.old) (W.contents out.new) (bytes_of form payload.now)) }
+/// Writes and flushes a payload. After an `Err` a beginning of it was written, or all.
+pub(crate) fn print<W: Write>(out: &mut W, form: Form, payload: &[u8]) -> Result<(), StreamFault>
+    ensures whole { OnOk result (Appends (W.contents out.old) (W.contents out.new) (bytes_of form payload.now)) }
+    ensures begun { OnErr result
+        (AppendsBeginning (W.contents out.old) (W.contents out.new) (bytes_of form payload.now)) }
 {
-    out.write_all(shown(form, payload))?;
-    out.write_all(behind(form))?;
-    out.flush()
+    write_whole(out, shown(form, payload))?;
+    write_whole(out, behind(form))?;
+    match out.flush() {
+        Ok(()) => Ok(()),
+        Err(_) => Err(StreamFault::Output),
+    }
 }
 
 /// The part of a file that is printed.

@@ -1,6 +1,7 @@
 mod FilesHandedOut
 mod Handed
 mod InboxLaws
+mod Judging
 mod LawLemmas
 mod Links
 mod Made

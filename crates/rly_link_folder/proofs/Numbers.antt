@@ -6,7 +6,7 @@ use Rattle.std.proofs.lemmas.Grind.{get_or_default_zero}
 use Rattle.std.specs.List.{Contains}
 use Rattle.std.specs.List.Sorted.{IsStrictlyIncreasing}
 use Rattle.std.specs.Prelude.{◌==◌, ◌&&◌, ◌||◌, nat_le, nat_lt}
-use Rattle.rly_link_folder.specs.InboxCalls.{GoesOn}
+use Rattle.rly_link_folder.specs.InboxCalls.{AreEnds, GoesOn}
 
 module _ (xs : List ℕ) (inc : IsStrictlyIncreasing xs) where
   grows : (j d : ℕ) → j + d < length xs → slice_index xs j + d ≤ slice_index xs (j + d)
@@ -29,6 +29,16 @@ module _ (xs : List ℕ) (inc : IsStrictlyIncreasing xs) where
 
     pub last_in : Contains xs g
     last_in = is_in (length xs - 1) g (omega (arith, some)) last
+
+    above_first : (n : ℕ) → Contains xs n → slice_index xs 0 ≤ n
+    above_first n has = omega (arith, at_most 0 has.0 (omega arith) has.1, at_index n has)
+
+    ends : (f : ℕ) → slice_index xs 0 ≡ f → AreEnds f g xs
+    ends f first = record {
+      least_in = is_in 0 f some first;
+      greatest_in = last_in;
+      within = λ n has. (omega (arith, above_first n has, first), below_last n has);
+    }
 
     all_there : a < g → g - a ≤ length xs → slice_index xs (length xs - (g - a)) ≡ a + 1 → (n : ℕ) → a < n → n ≤ g → Contains xs n
     all_there less fit first n above le =
@@ -91,6 +101,9 @@ pub goes_on : (a g : ℕ) (xs : List ℕ) → (length xs == 0) ≡ false → g �
     → IsStrictlyIncreasing xs → GoesOn a g xs
 goes_on a g xs some last is inc = goes xs inc (some_number _ some) a g (sym last) (passes a g _ _ is)
 
-pub is_apart : (a g : ℕ) (xs : List ℕ) → (length xs == 0) ≡ false → g ≡ slice_index xs (length xs - 1) → test a g xs ≡ false
-    → IsStrictlyIncreasing xs → (l : ℕ) → GoesOn a l xs → ⊥
-is_apart a g xs some last is inc l on = fails a g _ _ is (only_so xs inc (some_number _ some) a g (sym last) l on)
+pub is_apart : (a f g : ℕ) (xs : List ℕ) → (length xs == 0) ≡ false → f ≡ slice_index xs 0 → g ≡ slice_index xs (length xs - 1)
+    → test a g xs ≡ false → IsStrictlyIncreasing xs → ((l : ℕ) → GoesOn a l xs → ⊥) × AreEnds f g xs
+is_apart a f g xs some first last is inc = (
+  λ l on. fails a g _ _ is (only_so xs inc (some_number _ some) a g (sym last) l on),
+  ends xs inc (some_number _ some) a g (sym last) f (sym first),
+)

@@ -1,5 +1,5 @@
 -- Each packet that a peer's neighbour gives: Data 0, or the Data of the next number.
-use Rattle.std.proofs.Common.{◌≡◌, ◌⊎◌, ⊎_elim, ◌≤◌, ◌<◌, ◌+◌, ◌∙◌, ap, arith, inl, inr, refl, sym, ℕ, Bool, true, false, List, [], ◌∷◌, None, Some, Option, length}
+use Rattle.std.proofs.Common.{◌≡◌, ◌⊎◌, ⊎_elim, ◌≤◌, ◌<◌, ◌+◌, ◌∙◌, ap, arith, inl, inr, refl, ℕ, Bool, true, false, List, [], ◌∷◌, None, Some, Option, length}
 use Rattle.std.proofs.lemmas.Bool.Decides.{nat_tests}
 use Rattle.std.specs.Prelude.{if◌then◌else◌, nat_lt}
 use Rattle.rly_folder.specs.FolderModel.{FolderState}
@@ -9,10 +9,10 @@ use Rattle.rly_hop.specs.Spelling.{spelling}
 use Rattle.rly_link_folder.specs.Inbox.{custody_of, inbox_folder, last_of}
 use Rattle.rly_link_folder.specs.InboxCalls.{Reads}
 use Rattle.rly_link_folder.specs.PeerData.{IsNumbered}
-use Rattle.rly_link_folder.specs.PeerNeighbour.{EntersNext, FindsIn, Gives, GivesFile, GivesIf, GivesNumber, Peer, ServesIf}
-use Rattle.rly_link_folder.specs.PeerNeighbour.{data_with, has_window, packet_read, phase_read, question, sent_read}
-use Rattle.rly_link_folder.specs.declared.peer_neighbour.Phase.{Phase}
-use Rattle.rly_link_folder.specs.declared.peer_neighbour.Phase.TheVariants.{Apart, Asked, Asking, Failed, Refused, Serving}
+use Rattle.rly_link_folder.specs.PeerNeighbour.{EntersNext, FindsIn, Gives, GivesIf, GivesNumber, Peer, ServesIf}
+use Rattle.rly_link_folder.specs.PeerNeighbour.{file_data, has_window, packet_read, payload_with, phase_read, question, sent_read}
+use Rattle.rly_link_folder.specs.declared.phase.Phase.{Phase}
+use Rattle.rly_link_folder.specs.declared.phase.Phase.TheVariants.{Apart, Asked, Asking, Failed, QuestionRefused, Refused, Serving}
 
 nothing : {A : Type 0} (packet : List ℕ) → Some packet ≡ None → A
 nothing packet e = absurd (cc)
@@ -27,6 +27,8 @@ given false size packet spelled is some = (grind (arith, nat_tests, is), cc, is)
 pub record IsLike {F : Type 0} (old new : Peer F) : Type 0 where
   pub own : new.own ≡ old.own
   pub station : new.station ≡ old.station
+  pub rules : new.rules ≡ old.rules
+  pub limit : new.limit ≡ old.limit
   pub sent : new.sent ≡ old.sent
   pub custody : custody_of new.inbox ≡ custody_of old.inbox
 
@@ -35,12 +37,16 @@ module _ {F : Type 0} (state : F → FolderState) where
   finds_like [] place old found lists = record {
     own = ap (λ (p : Peer F). p.own) lists.rest;
     station = ap (λ (p : Peer F). p.station) lists.rest;
+    rules = ap (λ (p : Peer F). p.rules) lists.rest;
+    limit = ap (λ (p : Peer F). p.limit) lists.rest;
     sent = ap (λ (p : Peer F). p.sent) lists.rest;
     custody = lists.numbers.custody;
   }
   finds_like (first ∷ others) place old found finds = record {
     own = ap (λ (p : Peer F). p.own) finds.1;
     station = ap (λ (p : Peer F). p.station) finds.1;
+    rules = ap (λ (p : Peer F). p.rules) finds.1;
+    limit = ap (λ (p : Peer F). p.limit) finds.1;
     sent = ap (λ (p : Peer F). p.sent) finds.1;
     custody = ap (λ (p : Peer F). custody_of p.inbox) finds.1;
   }
@@ -51,6 +57,8 @@ module _ {F : Type 0} (state : F → FolderState) where
       (λ enters. record {
         own = ap (λ (p : Peer F). p.own) enters.rest ∙ like.own;
         station = ap (λ (p : Peer F). p.station) enters.rest ∙ like.station;
+        rules = ap (λ (p : Peer F). p.rules) enters.rest ∙ like.rules;
+        limit = ap (λ (p : Peer F). p.limit) enters.rest ∙ like.limit;
         sent = ap (λ (p : Peer F). p.sent) enters.rest ∙ like.sent;
         custody = enters.custody ∙ like.custody;
       })
@@ -65,18 +73,19 @@ module _ {F : Type 0} (state : F → FolderState) where
           → new ≡ record mid { inbox = new.inbox; phase = phase_read mid found; sent = sent_read mid found }
           → IsNumbered state packet old new
       by_found None above durable reads is custody last rest = nothing packet is
-      by_found (Some payload) above durable reads is custody last rest =
-          let short = given (nat_lt 8192 (length payload)) (length payload) packet (spelling (data_with mid (mid.sent + 1) payload)) refl is in
+      by_found (Some file) above durable reads is custody last rest =
+          let size : ℕ = length (payload_with mid file) in
+          let short = given (nat_lt 8192 size) size packet (spelling (file_data mid (mid.sent + 1) file)) refl is in
           let next : new.sent ≡ mid.sent + 1 = rw short.2 at (ap (λ (p : Peer F). p.sent) rest) in
           record {
-            payload = payload;
-            spelled = rw (← like.own, ← like.station, ← like.sent) short.1;
+            file = file;
+            spelled = rw (← like.own, ← like.station, ← like.rules, ← like.limit, ← like.sent) short.1;
             above = omega (arith, above, custody, like.sent);
             durable = omega (arith, durable, last, like.sent);
             within = within;
             before = inbox_folder mid.inbox;
             reads = rw (← like.sent) reads;
-            whole = short.0;
+            whole = rw like.rules at short.0;
             next = omega (arith, next, like.sent);
           }
 
@@ -86,7 +95,7 @@ module _ {F : Type 0} (state : F → FolderState) where
           (λ fails. nothing packet fails.none)
 
     by_entry : (has : Bool) → GivesIf has state (Some packet) old new → IsNumbered state packet old new
-    by_entry true = by_number old (record { own = refl; station = refl; sent = refl; custody = refl })
+    by_entry true = by_number old (record { own = refl; station = refl; rules = refl; limit = refl; sent = refl; custody = refl })
     by_entry false = ⊎_elim (λ on. by_number on.1 (enters_like on.0 old on.1 on.2) on.3) (λ none. nothing packet none.0)
 
   -- a number that is given follows those on their way, so it isn't behind the station's
@@ -101,7 +110,8 @@ module _ {F : Type 0} (state : F → FolderState) where
   by_phase Serving packet old new ordered gives = inr (serves packet old new ordered (has_window old) refl gives)
   by_phase Failed packet old new ordered none = nothing packet none.0
   by_phase Asked packet old new ordered none = nothing packet none.0
-  by_phase Apart packet old new ordered none = nothing packet none.0
+  by_phase (QuestionRefused refusal) packet old new ordered none = nothing packet none.0
+  by_phase (Apart custody least greatest) packet old new ordered none = nothing packet none.0
   by_phase (Refused number refusal) packet old new ordered none = nothing packet none.0
 
   pub gives_law : (packet : List ℕ) (old new : Peer F) → custody_of old.inbox ≤ old.sent → Gives old.phase state (Some packet) old new

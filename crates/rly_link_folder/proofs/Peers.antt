@@ -2,8 +2,8 @@
 use Rattle.std.proofs.Common.{◌≡◌, ◌⊎◌, ⊎_elim, ap, inl, inr, refl, ℕ, List, [], ◌∷◌, None, Some, IfNone, IfSome, Option}
 use Rattle.rly_folder.specs.FolderModel.{FolderState}
 use Rattle.rly_link_folder.specs.PeerNeighbour.{EntersNext, EntersPlace, FailsAtPlace, FailsToFind, FindsIn, HasSameNumbers, HearsCustody, Opens, Peer}
-use Rattle.rly_link_folder.specs.declared.peer_neighbour.Phase.{Phase}
-use Rattle.rly_link_folder.specs.declared.peer_neighbour.Phase.TheVariants.{Asked, Failed}
+use Rattle.rly_link_folder.specs.declared.phase.Phase.{Phase}
+use Rattle.rly_link_folder.specs.declared.phase.Phase.TheVariants.{Asked, Failed}
 
 -- the listing that failed doesn't go by the state that it leaves
 fails_so : {F : Type 0} (places : List ℕ) (state : F → FolderState) (old new : Peer F) (phase : Phase)

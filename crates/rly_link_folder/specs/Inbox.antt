@@ -4,9 +4,11 @@ use Rattle.rly_folder.specs.declared.name.Area.{Area}
 use Rattle.rly_folder.specs.FolderModel.{FolderState}
 use Rattle.rly_folder.specs.Names.{name_of}
 use Rattle.rly_folder.specs.declared.name.Area.TheVariants.{New, Sent}
-use Rattle.rly_link_folder.specs.InboxCalls.{FailsToJoin, FailsToMove, FailsToRefuse, Joins, Moves, Reads, reason_of, Refuses}
+use Rattle.rly_link_folder.specs.InboxCalls.{FailsToJoin, FailsToMove, FailsToRefuse, Joins, Moves, payload_of, Reads, reason_of, Refuses}
 use Rattle.rly_link_folder.specs.declared.admission.Admission.{Admission}
 use Rattle.rly_folder.specs.FolderCalls.{Faulted, Makes, ReadFile}
+use Rattle.rly_link_folder.specs.declared.inbox_calls.Joined.{Joined}
+use Rattle.rly_link_folder.specs.declared.inbox_calls.Joined.TheVariants as joined
 use Rattle.rly_link_folder.specs.declared.inbox_calls.Judged.{Judged}
 use Rattle.rly_link_folder.specs.declared.inbox_calls.Judged.TheVariants as judged
 use Rattle.rly_link_folder.specs.declared.inbox.Entry.{Entry}
@@ -32,12 +34,20 @@ routes_of rules = rules.routes.items
 abbrev pub longest_of : Admission → ℕ
 longest_of rules = rules.longest
 
--- a file of `new/` was read, and a station with these rules refuses it for this reason, or for none
+-- the destination of all files, if they have one
+abbrev pub destination_of : Admission → Option ℕ
+destination_of rules = rules.destination
+
+-- the payload of a file's datagram
+abbrev pub payload_in : Admission → List ℕ → List ℕ
+payload_in rules file = payload_of (destination_of rules) file
+
+-- a file of `new/` was read, and a station with these rules refuses its datagram for this reason, or for none
 pub record Judges {D : Type 0} (state : D → FolderState) (rules : Admission) (place : ℕ) (reason : Option Area) (old new : D)
     : Type 0 where
   pub found : List ℕ
   pub reads : Reads state (name_of New place) (longest_of rules + 2) (Some found) old new
-  pub is_reason : reason ≡ reason_of (routes_of rules) (longest_of rules) found
+  pub is_reason : reason ≡ reason_of (routes_of rules) (longest_of rules) (payload_in rules found)
 
 abbrev pub IsJudged : {D : Type 0} → (D → FolderState) → Admission → ℕ → Judged → D → D → Type 0
 IsJudged state rules place judged.Gone old new = Reads state (name_of New place) (longest_of rules + 2) None old new
@@ -90,7 +100,14 @@ IsToGive inbox number = (custody_of inbox < number) × (number ≤ last_of inbox
 abbrev pub IsToRelease : {F : Type 0} → Inbox F → ℕ → Type 0
 IsToRelease inbox custody = (custody_of inbox ≤ custody) × (custody ≤ last_of inbox)
 
+-- the numbers of an inbox after an opening: if `sent/` goes on they are the station's and the last one of it, else as before
+abbrev pub HasNumbers : {F : Type 0} → ℕ → Joined → Inbox F → Inbox F → Type 0
+HasNumbers custody (joined.To last) old new = (custody_of new ≡ custody) × (last_of new ≡ last) × (custody ≤ last)
+HasNumbers custody (joined.Apart least greatest) old new =
+    (custody_of new ≡ custody_of old) × (last_of new ≡ last_of old)
+
 -- the calls of an opening that didn't open the folder
 abbrev pub IsNotOpen : {F : Type 0} → (F → FolderState) → ℕ → NotOpen F → F → Type 0
 IsNotOpen state custody (Failed left) folder = FailsToJoin state folder left
-IsNotOpen state custody (Apart left) folder = Joins state custody None folder left
+IsNotOpen state custody (Apart left) folder =
+    (least : ℕ) × (greatest : ℕ) × Joins state custody (joined.Apart least greatest) folder left

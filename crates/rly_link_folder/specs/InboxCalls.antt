@@ -1,5 +1,5 @@
 -- The calls that give files numbers, read them, and remove them, in their order.
-use Rattle.std.specs.Prelude.{◌≡◌, ◌⊎◌, ◌==◌, ◌≤◌, ◌<◌, ◌+◌, ◌*◌, ◌-◌, ◌^◌, ℕ, Bool, true, false, not, if◌then◌else◌, nat_lt, List, [], ◌∷◌, ◌++◌}
+use Rattle.std.specs.Prelude.{◌≡◌, ◌⊎◌, ◌==◌, ◌≤◌, ◌<◌, ◌+◌, ◌*◌, ◌-◌, ◌/◌, ◌%◌, ◌^◌, ⊤, ℕ, Bool, true, false, not, if◌then◌else◌, nat_lt, List, [], ◌∷◌, ◌++◌}
 use Rattle.std.specs.Prelude.{Option, None, Some, Contains, length, option_map, take}
 use Rattle.std.specs.List.{list_any}
 use Rattle.rly_folder.specs.FolderCalls.{Did, Faulted, ListNames, Makes, ReadFile, Refrained, Remove, Rename, Sync}
@@ -10,6 +10,8 @@ use Rattle.rly_folder.specs.declared.name.Area.TheVariants.{NoRoute, Sent, TooLo
 use Rattle.rly_folder.specs.declared.name.Name.{Name}
 use Rattle.rly_link_folder.specs.OutboxCalls.{Finds, if_linked}
 use Rattle.rly_link_folder.specs.Script.{MakesEach, Step}
+use Rattle.rly_link_folder.specs.declared.inbox_calls.Joined.{Joined}
+use Rattle.rly_link_folder.specs.declared.inbox_calls.Joined.TheVariants.{Apart, To}
 
 -- the numbers of `sent/` go on from the station's last number, up to this one: all between are there, none is above it,
 -- and if there are any this one is among them
@@ -19,19 +21,31 @@ pub record GoesOn (custody last : ℕ) (numbers : List ℕ) : Type 0 where
   pub bound : (n : ℕ) → Contains numbers n → n ≤ last
   pub reached : (numbers ≡ []) ⊎ Contains numbers last
 
--- `sent/` goes on to this number, or to none
-abbrev pub GoesOnTo : ℕ → Option ℕ → List ℕ → Type 0
-GoesOnTo custody (Some last) numbers = GoesOn custody last numbers
-GoesOnTo custody None numbers = (last : ℕ) → GoesOn custody last numbers → ⊥
+-- the least of these numbers, and the greatest
+pub record AreEnds (least greatest : ℕ) (numbers : List ℕ) : Type 0 where
+  pub least_in : Contains numbers least
+  pub greatest_in : Contains numbers greatest
+  pub within : (n : ℕ) → Contains numbers n → (least ≤ n) × (n ≤ greatest)
+
+-- `sent/` goes on to this number; or to none, and these are the ends of its numbers
+abbrev pub GoesOnTo : ℕ → Joined → List ℕ → Type 0
+GoesOnTo custody (To last) numbers = GoesOn custody last numbers
+GoesOnTo custody (Apart least greatest) numbers =
+    ((last : ℕ) → GoesOn custody last numbers → ⊥) × AreEnds least greatest numbers
+
+-- it goes on to no number below the station's
+abbrev pub IsNotBelow : ℕ → Joined → Type 0
+IsNotBelow custody (To last) = custody ≤ last
+IsNotBelow custody (Apart least greatest) = ⊤
 
 -- an opening: after a sync `sent/` is listed
-pub record Joins {D : Type 0} (state : D → FolderState) (custody : ℕ) (last : Option ℕ) (old new : D) : Type 0 where
+pub record Joins {D : Type 0} (state : D → FolderState) (custody : ℕ) (joined : Joined) (old new : D) : Type 0 where
   pub synced : D
   pub numbers : List ℕ
   pub syncs : Makes state Sync Did old synced
   pub makes : Makes state (ListNames Sent) Did synced new
   pub listing : (state old).honest → IsListing Sent (state new).seen.files numbers
-  pub goes_on : (state old).honest → GoesOnTo custody last numbers
+  pub goes_on : (state old).honest → GoesOnTo custody joined numbers
 
 -- a call of an opening failed
 pub data FailsToJoin {D : Type 0} (state : D → FolderState) (old new : D) : Type 0 where
@@ -49,7 +63,16 @@ pub record Reads {D : Type 0} (state : D → FolderState) (name : Name) (most : 
 abbrev pub renaming : Name → Name → List Step
 renaming from to = (Rename from to, Did) ∷ (Sync, Did) ∷ []
 
--- the two bytes that name a datagram's destination
+-- a payload that names a destination and nothing else
+abbrev pub destination_bytes : ℕ → List ℕ
+destination_bytes destination = destination / 256 ∷ destination % 256 ∷ []
+
+-- the payload of a file's datagram: the file, behind the two bytes of a destination if all files have one
+abbrev pub payload_of : Option ℕ → List ℕ → List ℕ
+payload_of None file = file
+payload_of (Some destination) file = destination_bytes destination ++ file
+
+-- the destination that the first two bytes of a payload name
 abbrev pub destination_in : List ℕ → Option ℕ
 destination_in [] = None
 destination_in (high ∷ []) = None

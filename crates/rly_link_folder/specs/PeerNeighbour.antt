@@ -1,5 +1,5 @@
 -- The neighbour station of a peer, played by a folder: its packets, and what it makes of the station's.
-use Rattle.std.specs.Prelude.{◌≡◌, ◌⊎◌, ◌≤◌, ◌<◌, ◌+◌, ◌-◌, ◌/◌, ◌%◌, ◌&&◌, ◌||◌, ◌==◌, ℕ, Bool, true, false, if◌then◌else◌, nat_le, nat_lt, max}
+use Rattle.std.specs.Prelude.{◌≡◌, ◌⊎◌, ◌≤◌, ◌<◌, ◌+◌, ◌-◌, ◌&&◌, ◌||◌, ◌==◌, ℕ, Bool, true, false, if◌then◌else◌, nat_le, nat_lt, max}
 use Rattle.std.specs.Prelude.{List, [], ◌∷◌, ◌++◌, length, Option, None, Some}
 use Rattle.std.specs.Option.{option_to_list}
 use Rattle.rly_folder.specs.FolderCalls.{Did, Faulted, ListNames, Makes, ReadFile}
@@ -11,16 +11,17 @@ use Rattle.rly_hop.specs.declared.message.Message.{Message}
 use Rattle.rly_hop.specs.declared.message.Message.TheVariants as message
 use Rattle.rly_hop.specs.declared.message.StationId.{StationId}
 use Rattle.rly_link.specs.LinkHistory.{message_in}
-use Rattle.rly_link_folder.specs.Inbox.{Enters, FailsToEnter, custody_of, inbox_folder, last_after, last_of}
-use Rattle.rly_link_folder.specs.InboxCalls.{FailsToJoin, FailsToRelease, Joins, Reads, Releases}
+use Rattle.rly_link_folder.specs.Inbox.{Enters, FailsToEnter, custody_of, inbox_folder, last_after, last_of, payload_in}
+use Rattle.rly_link_folder.specs.InboxCalls.{FailsToJoin, FailsToRelease, Joins, Reads, Releases, destination_bytes}
 use Rattle.rly_link_folder.specs.declared.admission.Admission.{Admission}
 use Rattle.rly_link_folder.specs.declared.inbox.Entry.{Entry}
 use Rattle.rly_link_folder.specs.declared.inbox.Entry.TheVariants as entry
 use Rattle.rly_link_folder.specs.declared.inbox.Inbox.{Inbox}
+use Rattle.rly_link_folder.specs.declared.inbox_calls.Joined.TheVariants as joined
 use Rattle.rly_link_folder.specs.declared.peer_neighbour.News.{News}
 use Rattle.rly_link_folder.specs.declared.peer_neighbour.News.TheVariants as news
-use Rattle.rly_link_folder.specs.declared.peer_neighbour.Phase.{Phase}
-use Rattle.rly_link_folder.specs.declared.peer_neighbour.Phase.TheVariants.{Apart, Asked, Asking, Failed, Refused, Serving}
+use Rattle.rly_link_folder.specs.declared.phase.Phase.{Phase}
+use Rattle.rly_link_folder.specs.declared.phase.Phase.TheVariants.{Apart, Asked, Asking, Failed, QuestionRefused, Refused, Serving}
 
 -- the model
 pub record Peer (F : Type 0) : Type 0 where
@@ -29,6 +30,8 @@ pub record Peer (F : Type 0) : Type 0 where
   pub rules : Admission
   -- so many Data may be on their way
   pub window : ℕ
+  -- the age limit in the Data of a file, in microseconds; 0 = none
+  pub limit : ℕ
   -- the destination in a Data 0
   pub probe : ℕ
   pub inbox : Inbox F
@@ -48,7 +51,8 @@ is_serving Serving = true
 is_serving Failed = false
 is_serving Asking = false
 is_serving Asked = false
-is_serving Apart = false
+is_serving (QuestionRefused refusal) = false
+is_serving (Apart custody least greatest) = false
 is_serving (Refused number refusal) = false
 
 -- the calls of the folder changed no number
@@ -77,10 +81,15 @@ news_of own station (Some (message.Heard from to last bits)) = None
 abbrev pub is_on_its_way : {F : Type 0} → Peer F → ℕ → Bool
 is_on_its_way peer number = nat_lt (custody_of peer.inbox) number && nat_le number peer.sent
 
--- a Refused of a number that is on its way ends the giving
-abbrev pub phase_refused : {F : Type 0} → Peer F → ℕ → ℕ → Phase
-phase_refused peer number refusal =
-    if is_serving peer.phase && is_on_its_way peer number then Refused number refusal else peer.phase
+-- a Refused of a number that is on its way ends the giving, and one of 0 the asking
+abbrev pub phase_refused : Phase → {F : Type 0} → Peer F → ℕ → ℕ → Phase
+phase_refused Serving peer number refusal = if is_on_its_way peer number then Refused number refusal else Serving
+phase_refused Asked peer number refusal = if number == 0 then QuestionRefused refusal else Asked
+phase_refused Failed peer number refusal = Failed
+phase_refused Asking peer number refusal = Asking
+phase_refused (QuestionRefused earlier) peer number refusal = QuestionRefused earlier
+phase_refused (Apart custody least greatest) peer number refusal = Apart custody least greatest
+phase_refused (Refused earlier cause) peer number refusal = Refused earlier cause
 
 -- a Custody of the refused number, or of a later one, ends the refusal
 abbrev pub phase_covered : Phase → ℕ → Phase
@@ -88,7 +97,8 @@ phase_covered Serving custody = Serving
 phase_covered Failed custody = Failed
 phase_covered Asking custody = Asking
 phase_covered Asked custody = Asked
-phase_covered Apart custody = Apart
+phase_covered (QuestionRefused refusal) custody = QuestionRefused refusal
+phase_covered (Apart station least greatest) custody = Apart station least greatest
 phase_covered (Refused number refusal) custody = if nat_le number custody then Serving else Refused number refusal
 
 -- the station's number rises to this one
@@ -115,15 +125,17 @@ CoversIf false state custody old new = new ≡ old
 
 -- the folder is open to the station's number, and nothing is on its way or was listed
 pub record IsOpen {F : Type 0} (state : F → FolderState) (custody : ℕ) (old new : Peer F) : Type 0 where
-  pub joins : Joins state custody (Some (last_of new.inbox)) (inbox_folder old.inbox) (inbox_folder new.inbox)
+  pub joins : Joins state custody (joined.To (last_of new.inbox)) (inbox_folder old.inbox) (inbox_folder new.inbox)
   pub custody_is : custody_of new.inbox ≡ custody
   pub rest : new ≡ record old { inbox = new.inbox; places = []; phase = Serving; sent = custody }
 
 -- `sent/` doesn't go on from the station's number
 pub record IsApart {F : Type 0} (state : F → FolderState) (custody : ℕ) (old new : Peer F) : Type 0 where
-  pub joins : Joins state custody None (inbox_folder old.inbox) (inbox_folder new.inbox)
+  pub least : ℕ
+  pub greatest : ℕ
+  pub joins : Joins state custody (joined.Apart least greatest) (inbox_folder old.inbox) (inbox_folder new.inbox)
   pub numbers : HasSameNumbers old.inbox new.inbox
-  pub rest : new ≡ record old { inbox = new.inbox; phase = Apart }
+  pub rest : new ≡ record old { inbox = new.inbox; phase = Apart custody least greatest }
 
 -- the answer to a Data 0: the folder opens to the station's number, and the files up to it are removed
 abbrev pub Opens : {F : Type 0} → (F → FolderState) → ℕ → Peer F → Peer F → Type 0
@@ -139,26 +151,30 @@ HearsCustody Serving state custody old new = CoversIf (is_further old custody) s
 HearsCustody (Refused number refusal) state custody old new = CoversIf (is_further old custody) state custody old new
 HearsCustody Failed state custody old new = new ≡ old
 HearsCustody Asking state custody old new = new ≡ old
-HearsCustody Apart state custody old new = new ≡ old
+HearsCustody (QuestionRefused refusal) state custody old new = new ≡ old
+HearsCustody (Apart station least greatest) state custody old new = new ≡ old
 
 -- what became of a packet
 abbrev pub Hears : {F : Type 0} → (F → FolderState) → Option News → Peer F → Peer F → Type 0
 Hears state None old new = new ≡ old
 Hears state (Some (news.Custody custody)) old new = HearsCustody old.phase state custody old new
 Hears state (Some (news.Refused number refusal)) old new =
-    new ≡ record old { phase = phase_refused old number refusal }
-
--- a payload that names a destination and nothing else
-abbrev pub destination_bytes : ℕ → List ℕ
-destination_bytes destination = destination / 256 ∷ destination % 256 ∷ []
+    new ≡ record old { phase = phase_refused old.phase old number refusal }
 
 -- a Data of this station
-abbrev pub data_with : {F : Type 0} → Peer F → ℕ → List ℕ → Message (List ℕ)
-data_with peer number payload = message.Data peer.own peer.station number 0 payload
+abbrev pub data_with : {F : Type 0} → Peer F → ℕ → ℕ → List ℕ → Message (List ℕ)
+data_with peer number limit payload = message.Data peer.own peer.station number limit payload
 
 -- Data 0 asks for the station's last number
 abbrev pub question : {F : Type 0} → Peer F → Message (List ℕ)
-question peer = data_with peer 0 (destination_bytes peer.probe)
+question peer = data_with peer 0 0 (destination_bytes peer.probe)
+
+-- the payload of a file, and its Data under a number
+abbrev pub payload_with : {F : Type 0} → Peer F → List ℕ → List ℕ
+payload_with peer file = payload_in peer.rules file
+
+abbrev pub file_data : {F : Type 0} → Peer F → ℕ → List ℕ → Message (List ℕ)
+file_data peer number file = data_with peer number peer.limit (payload_with peer file)
 
 -- one more may be on its way
 abbrev pub has_window : {F : Type 0} → Peer F → Bool
@@ -172,18 +188,20 @@ has_more peer = is_serving peer.phase && has_window peer && nat_lt 0 (length pee
 -- file that is gone as a call that failed
 abbrev pub packet_read : {F : Type 0} → Peer F → Option (List ℕ) → Option (List ℕ)
 packet_read peer None = None
-packet_read peer (Some payload) =
-    if nat_lt 8192 (length payload) then None else Some (spelling (data_with peer (peer.sent + 1) payload))
+packet_read peer (Some file) =
+    if nat_lt 8192 (length (payload_with peer file)) then None
+    else Some (spelling (file_data peer (peer.sent + 1) file))
 
 abbrev pub phase_read : {F : Type 0} → Peer F → Option (List ℕ) → Phase
 phase_read peer None = Failed
-phase_read peer (Some payload) = if nat_lt 8192 (length payload) then Refused (peer.sent + 1) 5 else peer.phase
+phase_read peer (Some file) =
+    if nat_lt 8192 (length (payload_with peer file)) then Refused (peer.sent + 1) 5 else peer.phase
 
 abbrev pub sent_read : {F : Type 0} → Peer F → Option (List ℕ) → ℕ
 sent_read peer None = peer.sent
-sent_read peer (Some payload) = if nat_lt 8192 (length payload) then peer.sent else peer.sent + 1
+sent_read peer (Some file) = if nat_lt 8192 (length (payload_with peer file)) then peer.sent else peer.sent + 1
 
--- the Data of the next number: its whole file, which is durable under that number and isn't in the station's custody
+-- the Data of the next number, with its whole file, which is durable under that number and isn't in the station's custody
 pub record GivesFile {F : Type 0} (state : F → FolderState) (packet : Option (List ℕ)) (old new : Peer F) : Type 0 where
   pub above : custody_of old.inbox < old.sent + 1
   pub durable : old.sent + 1 ≤ last_of old.inbox
@@ -270,7 +288,8 @@ Gives Asking state packet old new = (packet ≡ Some (spelling (question old))) 
 Gives Serving state packet old new = ServesIf (has_window old) state packet old new
 Gives Failed state packet old new = (packet ≡ None) × (new ≡ old)
 Gives Asked state packet old new = (packet ≡ None) × (new ≡ old)
-Gives Apart state packet old new = (packet ≡ None) × (new ≡ old)
+Gives (QuestionRefused refusal) state packet old new = (packet ≡ None) × (new ≡ old)
+Gives (Apart custody least greatest) state packet old new = (packet ≡ None) × (new ≡ old)
 Gives (Refused number refusal) state packet old new = (packet ≡ None) × (new ≡ old)
 
 -- these refusals last until the plan changes: no route, a moment out of range, too long
@@ -285,8 +304,9 @@ abbrev pub tried_again : Phase → {F : Type 0} → Peer F → Peer F
 tried_again Failed peer = record peer { phase = Asking }
 tried_again Asking peer = peer
 tried_again Asked peer = record peer { phase = Asking }
+tried_again (QuestionRefused refusal) peer = if is_for_good refusal then peer else record peer { phase = Asking }
 tried_again Serving peer = from_custody peer
-tried_again Apart peer = peer
+tried_again (Apart custody least greatest) peer = peer
 tried_again (Refused number refusal) peer = if is_for_good refusal then peer else from_custody peer
 
 -- what a link makes of it: a packet comes, one is wanted, another program changed the folder, nothing came for a while

@@ -12,12 +12,13 @@ use rly_link::{Link, LinkFault, Sleep};
 /// that another program changed the folder, and carries nothing. If a wait of the bell ends with nothing the neighbour
 /// tries again: so a bell whose waits have no end makes a link that never does.
 #[derive(Drop)]
-pub struct FolderLink<N: Neighbour, L: Link> {
+pub struct FolderLink<N, L> {
     neighbour: N,
     bell: L,
 }
 
 impl<N: Neighbour, L: Link> FolderLink<N, L> {
+    /// Makes a link over a neighbour and a bell. Nothing is sent or waited for yet.
     pub fn new(neighbour: N, bell: L) -> Self
         ensures neighbour { result.neighbour ≡ neighbour }
         ensures bell { result.bell ≡ bell }

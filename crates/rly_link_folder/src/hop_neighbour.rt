@@ -51,7 +51,7 @@ impl<F> Model for HopNeighbour<F> {
 
 impl<F: Folder> HopNeighbour<F> {
     ghost use Rattle.rly_link_folder.specs.HopNeighbour.{Handles, IsDurable, Offers};
-    ghost use Rattle.rly_link_folder.specs.Outbox.{greatest_of};
+    ghost use Rattle.rly_link_folder.specs.Outbox.{folder_of, greatest_of};
 
     /// The station `own`, which this folder plays, for the hop of the station `station`. At first it sends nothing.
     pub fn new(own: StationId, station: StationId, outbox: Outbox<F>) -> Self
@@ -71,6 +71,13 @@ impl<F: Folder> HopNeighbour<F> {
                 full: false,
             },
         }
+    }
+
+    /// Returns the folder, for a report.
+    pub fn folder(&self) -> &F
+        ensures { result.now ≡ folder_of self.now.outbox }
+    {
+        self.outbox.folder()
     }
 
     /// Handles a packet that the hop sent: a Data for this station is answered once its file and its number are durable.

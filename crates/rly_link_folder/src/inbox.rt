@@ -1,5 +1,5 @@
 // The incoming half of a folder that plays a neighbour.
-ghost use Rattle.std.specs.Prelude.{◌≡◌, ◌≤◌, IfErr, IfOk, IsTrue, None, Ok, OnErr, Some, false, if◌then◌else◌, is_ok};
+ghost use Rattle.std.specs.Prelude.{◌≡◌, IfErr, IfOk, IsTrue, None, Ok, OnErr, false, is_ok};
 ghost use Rattle.std.specs.Prelude.{option_map, true};
 ghost use Rattle.rly_folder.specs.FolderCalls.{Faulted, ListNames, Makes, ReadFile, outcome_if};
 ghost use Rattle.rly_folder.specs.FolderModel.{IsListing};
@@ -9,7 +9,7 @@ ghost use Rattle.rly_link_folder.specs.InboxCalls.{FailsToJoin, FailsToRelease, 
 ghost use Rattle.rly_link_folder.specs.Inbox.{last_after};
 
 use crate::Admission;
-use crate::inbox_calls::{enter, join, release};
+use crate::inbox_calls::{Joined, enter, join, release};
 use rly_folder::{Area, Folder, FolderFault, Name};
 
 /// What became of a file of `new/`.
@@ -41,19 +41,20 @@ pub enum NotOpen<F> {
 }
 
 impl<F: Folder> Inbox<F> {
-    ghost use Rattle.rly_link_folder.specs.Inbox.{Enters, FailsToEnter, IsNotOpen, IsToGive, IsToRelease, custody_of, inbox_folder, last_of};
+    ghost use Rattle.rly_link_folder.specs.Inbox.{Enters, FailsToEnter, HasNumbers, IsNotOpen, IsToGive, IsToRelease};
+    ghost use Rattle.rly_link_folder.specs.Inbox.{custody_of, inbox_folder, last_of};
 
     /// Opens a folder for a station whose last number is `custody`.
     pub fn open(folder: F, custody: u64) -> Result<Self, NotOpen<F>>
         ensures opens { IfOk result
-            (λ inbox. Joins F.state custody (Some (last_of inbox)) folder (inbox_folder inbox)) }
+            (λ inbox. Joins F.state custody (Joined.To (last_of inbox)) folder (inbox_folder inbox)) }
         ensures custody { IfOk result (λ inbox. custody_of inbox ≡ custody) }
         ensures fails { IfErr result (λ left. IsNotOpen F.state custody left folder) }
     {
         let mut inbox = Inbox::closed(folder);
         match inbox.open_again(custody) {
-            Ok(true) => Ok(inbox),
-            Ok(false) => Err(NotOpen::Apart(inbox.into_folder())),
+            Ok(Joined::To(_)) => Ok(inbox),
+            Ok(Joined::Apart { .. }) => Err(NotOpen::Apart(inbox.into_folder())),
             Err(_) => Err(NotOpen::Failed(inbox.into_folder())),
         }
     }
@@ -71,28 +72,31 @@ impl<F: Folder> Inbox<F> {
         }
     }
 
-    /// Opens it in place, as `open` does. Returns false if `sent/` doesn't go on from the station's number: it is as open
-    /// as before then, and after an `Err` too.
-    pub(crate) fn open_again(&mut self, custody: u64) -> Result<bool, FolderFault>
-        ensures opens { IfOk result (λ goes_on. IsTrue goes_on
-            → Joins F.state custody (Some (last_of self.new)) (inbox_folder self.old) (inbox_folder self.new)) }
-        ensures apart { IfOk result (λ goes_on. ¬ IsTrue goes_on
-            → Joins F.state custody None (inbox_folder self.old) (inbox_folder self.new)) }
-        ensures custody { IfOk result (λ goes_on. custody_of self.new ≡ (if goes_on then custody else custody_of self.old)) }
-        ensures last { IfOk result (λ goes_on. ¬ IsTrue goes_on → last_of self.new ≡ last_of self.old) }
-        ensures within { IfOk result (λ goes_on. IsTrue goes_on → custody ≤ last_of self.new) }
+    /// Opens it in place, as `open` does. If `sent/` doesn't go on from the station's number it is as open as before, and
+    /// after an `Err` too.
+    pub(crate) fn open_again(&mut self, custody: u64) -> Result<Joined, FolderFault>
+        ensures joins { IfOk result
+            (λ joined. Joins F.state custody joined (inbox_folder self.old) (inbox_folder self.new)) }
+        ensures numbers { IfOk result (λ joined. HasNumbers custody joined self.old self.new) }
         ensures fails { OnErr result (FailsToJoin F.state (inbox_folder self.old) (inbox_folder self.new)) }
         ensures unchanged { OnErr result ((custody_of self.new ≡ custody_of self.old) × (last_of self.new ≡ last_of self.old)) }
     {
         match join(&mut self.folder, custody) {
-            Ok(Some(last)) => {
+            Ok(Joined::To(last)) => {
                 self.custody = custody;
                 self.last = last;
-                Ok(true)
+                Ok(Joined::To(last))
             }
-            Ok(None) => Ok(false),
+            Ok(Joined::Apart { least, greatest }) => Ok(Joined::Apart { least, greatest }),
             Err(fault) => Err(fault),
         }
+    }
+
+    /// Returns the folder.
+    pub(crate) fn folder(&self) -> &F
+        ensures { result.now ≡ inbox_folder self.now }
+    {
+        &self.folder
     }
 
     /// Returns the station's number.
@@ -162,8 +166,8 @@ impl<F: Folder> Inbox<F> {
         }
     }
 
-    /// Returns the first `most` bytes of the file of a number, as the payload of the Data of that number: only of a
-    /// number that is durable and above the station's, else `None` without a call.
+    /// Returns the first `most` bytes of the file of a number, for the Data of that number: only of a number that is durable
+    /// and above the station's, else `None` without a call.
     pub fn give(&mut self, number: u64, most: usize) -> Result<Option<Vec<u8>>, FolderFault>
         ensures file { IsToGive self.old number → IfOk result
             (λ found. Reads F.state (name_of Sent number) most (option_map (λ bytes. bytes.items) found)

@@ -1,14 +1,14 @@
 //! The calls that give files numbers, read them, and remove them.
 
 ghost use Rattle.std.specs.Prelude.{◌≡◌, ◌==◌, ◌&&◌, ◌||◌, ◌+◌, ◌-◌, ◌∷◌, [], IfOk, OnErr, OnOk, is_ok, length, nat_le};
-ghost use Rattle.std.specs.Prelude.{◌≤◌, IfSome, IsTrue, nat_lt, slice_index, true};
+ghost use Rattle.std.specs.Prelude.{◌≤◌, IsTrue, nat_lt, slice_index, true};
 ghost use Rattle.std.specs.List.Sorted.{IsStrictlyIncreasing};
 ghost use Rattle.rly_folder.specs.FolderCalls.{Faulted, Makes, ReadFile};
 ghost use Rattle.rly_folder.specs.Names.{name_of};
 ghost use Rattle.rly_folder.specs.declared.name.Area.TheVariants.{New};
 ghost use Rattle.rly_link_folder.specs.Inbox.{Enters, FailsToEnter, IsJudged};
 ghost use Rattle.rly_link_folder.specs.InboxCalls.{FailsToJoin, FailsToMove, FailsToRefuse, FailsToRelease};
-ghost use Rattle.rly_link_folder.specs.InboxCalls.{GoesOnTo, Joins, Moves, Refuses, Releases, Removes, RemovesTo};
+ghost use Rattle.rly_link_folder.specs.InboxCalls.{GoesOnTo, IsNotBelow, Joins, Moves, Refuses, Releases, Removes, RemovesTo};
 
 use crate::calls::{greatest_in, last_number};
 use crate::{Admission, Entry};
@@ -113,31 +113,40 @@ fn goes_on(numbers: &[u64], custody: u64, greatest: u64) -> bool
     count <= length && numbers[(length - count) as usize] == custody + 1
 }
 
-/// Returns the last of the numbers of `sent/`, the station's if there are none: `None` if they don't go on from it.
-fn last_in(numbers: &[u64], custody: u64) -> Option<u64>
+/// What the numbers of `sent/` are to the station's last one.
+#[derive(Clone, Copy, Drop)]
+pub(crate) enum Joined {
+    /// They go on from it, to this one: if there are none, to itself.
+    To(u64),
+    /// They don't: the least and the greatest of them.
+    Apart { least: u64, greatest: u64 },
+}
+
+/// Returns what the numbers of `sent/` are to the station's.
+fn joined_to(numbers: &[u64], custody: u64) -> Joined
     ensures goes_on { IsStrictlyIncreasing numbers.now → GoesOnTo custody result numbers.now }
-    ensures within { IfSome result (λ last. custody ≤ last) }
+    ensures within { IsNotBelow custody result }
 {
     if numbers.is_empty() {
-        return Some(custody);
+        return Joined::To(custody);
     }
-    let greatest = last_number(numbers);
+    let (least, greatest) = (numbers[0], last_number(numbers));
     if goes_on(numbers, custody, greatest) {
-        Some(greatest)
+        Joined::To(greatest)
     } else {
-        None
+        Joined::Apart { least, greatest }
     }
 }
 
-/// Lists `sent/` after a sync, and returns its last number, or `None` if it doesn't go on from the station's.
-pub(crate) fn join<F: Folder>(folder: &mut F, custody: u64) -> Result<Option<u64>, FolderFault>
-    ensures ok { IfOk result (λ last. Joins F.state custody last folder.old folder.new) }
-    ensures within { IfOk result (λ last. IfSome last (λ number. custody ≤ number)) }
+/// Lists `sent/` after a sync, and returns what its numbers are to the station's.
+pub(crate) fn join<F: Folder>(folder: &mut F, custody: u64) -> Result<Joined, FolderFault>
+    ensures ok { IfOk result (λ joined. Joins F.state custody joined folder.old folder.new) }
+    ensures within { IfOk result (λ joined. IsNotBelow custody joined) }
     ensures err { OnErr result (FailsToJoin F.state folder.old folder.new) }
 {
     folder.sync()?;
     let numbers = folder.list(Area::Sent)?;
-    Ok(last_in(&numbers, custody))
+    Ok(joined_to(&numbers, custody))
 }
 
 /// Removes the file of a number, if it is below the station's.

@@ -1,5 +1,5 @@
 //! A folder that plays the neighbour station: of a hop, whose datagrams become files (`Outbox`), and
-//! of a peer, whose datagrams are made of files (`Inbox`). No crate uses it yet.
+//! of a peer, whose datagrams are made of files (`Inbox`).
 //!
 //! Of all Data to an outbox only the next number is written: its file is durable under its number
 //! before a hidden name of no bytes says that it is, and that name is durable before its Custody
@@ -29,6 +29,7 @@ mod neighbour;
 mod outbox;
 mod peer_laws;
 mod peer_neighbour;
+mod phase;
 
 pub use admission::Admission;
 pub use folder_link::FolderLink;
@@ -38,5 +39,6 @@ pub use inbox_laws::{law_numbers, law_releases};
 pub use laws::{law_hands_out, law_lists, law_opens_to};
 pub use neighbour::Neighbour;
 pub use outbox::Outbox;
-pub use peer_laws::law_gives;
-pub use peer_neighbour::{PeerNeighbour, Phase};
+pub use peer_laws::{law_gives, law_judges};
+pub use peer_neighbour::PeerNeighbour;
+pub use phase::{Phase, is_for_good};

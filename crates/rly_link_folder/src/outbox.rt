@@ -83,6 +83,13 @@ impl<F: Folder> Outbox<F> {
         has_room(&mut self.folder, self.most)
     }
 
+    /// Returns the folder, for a report.
+    pub(crate) fn folder(&self) -> &F
+        ensures { result.now ≡ folder_of self.now }
+    {
+        &self.folder
+    }
+
     /// Returns the folder.
     pub fn into_folder(self) -> F
         ensures { result ≡ folder_of self }

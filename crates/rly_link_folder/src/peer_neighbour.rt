@@ -1,6 +1,6 @@
 // The neighbour station of a peer, played by a folder.
 ghost use Rattle.std.specs.Option.{option_map};
-ghost use Rattle.std.specs.Prelude.{◌≡◌, ◌⊎◌, ◌≤◌, ◌+◌, ◌/◌, ◌%◌, ◌∷◌, ◌&&◌, ◌==◌, [], None, Some, IfNone, IfOk, IfSome, OnErr};
+ghost use Rattle.std.specs.Prelude.{◌≡◌, ◌⊎◌, ◌≤◌, ◌<◌, ◌+◌, ◌^◌, ◌&&◌, ◌==◌, [], None, Some, IfNone, IfOk, IfSome, OnErr};
 ghost use Rattle.std.specs.Prelude.{if◌then◌else◌, length, nat_le, nat_lt, take};
 ghost use Rattle.rly_folder.specs.FolderCalls.{Faulted, Makes, ReadFile};
 ghost use Rattle.rly_folder.specs.Names.{name_of};
@@ -9,10 +9,13 @@ ghost use Rattle.rly_hop.specs.Payloads.{message_bytes};
 ghost use Rattle.rly_hop.specs.Spelling.{IsStation, spelling, write_refusal};
 ghost use Rattle.rly_link.specs.LinkHistory.{message_in};
 ghost use Rattle.rly_link_folder.specs.InboxCalls.{Reads};
-ghost use Rattle.rly_link_folder.specs.PeerNeighbour.{destination_bytes, is_for_good, news_if, news_of, phase_covered};
+ghost use Rattle.rly_link_folder.specs.PeerNeighbour.{news_if, news_of};
 
+use crate::admission::{destination_bytes, write_after};
+use crate::inbox_calls::Joined;
 use crate::messages::{message_of, write_packet};
-use crate::{Admission, Entry, Inbox};
+use crate::phase::{is_for_good, phase_covered};
+use crate::{Admission, Entry, Inbox, Phase};
 use rly_core::Refusal;
 use rly_core::limits::MAX_PAYLOAD;
 use rly_folder::{Folder, FolderFault};
@@ -20,25 +23,6 @@ use rly_hop::{MAX_MESSAGE, Message, StationId};
 use std::alloc::Global;
 use std::collections::VecDeque;
 use std::marker::Model;
-
-/// The state of a peer's neighbour.
-#[derive(Clone, Copy, Debug, PartialEq, Eq, Drop)]
-pub enum Phase {
-    /// A call of the folder failed, or a file with a number was gone. It asks for the station's last number after the next
-    /// `again`.
-    Failed,
-    /// It asks for the station's last number next.
-    Asking,
-    /// It waits for the answer.
-    Asked,
-    /// The folder is open.
-    Serving,
-    /// The files of `sent/` don't go on from the station's last number: nothing is given or removed.
-    Apart,
-    /// The Data of this number was refused, by the refusal of this number, and nothing is given: until that number is in
-    /// the station's custody, or until the next `again` if the refusal isn't for good (2, 3 or 5).
-    Refused { number: u64, refusal: u8 },
-}
 
 /// A message of the station to its neighbour that counts.
 #[derive(Clone, Copy)]
@@ -55,6 +39,7 @@ pub struct PeerNeighbour<F> {
     station: StationId,
     rules: Admission,
     window: u64,
+    limit: u64,
     probe: u16,
     inbox: Inbox<F>,
     places: VecDeque<u64>,
@@ -63,6 +48,7 @@ pub struct PeerNeighbour<F> {
 }
 
 impl<F> Model for PeerNeighbour<F> {
+    ghost use Rattle.std.specs.Prelude.{◌<◌, ◌^◌};
     ghost use Rattle.rly_hop.specs.Spelling.{IsStation};
     ghost use Rattle.rly_link_folder.specs.Inbox.{custody_of, last_of};
     ghost use Rattle.rly_link_folder.specs.PeerNeighbour.{IsInOrder, Peer};
@@ -74,6 +60,7 @@ impl<F> Model for PeerNeighbour<F> {
       station = p.station;
       rules = p.rules;
       window = p.window;
+      limit = p.limit;
       probe = p.probe;
       inbox = p.inbox;
       places = p.places.items;
@@ -82,7 +69,7 @@ impl<F> Model for PeerNeighbour<F> {
     } };
 
     ghost invariant = { λ p. IsInOrder (custody_of p.inbox) p.sent (last_of p.inbox)
-        × (IsStation p.own × IsStation p.station) };
+        × (IsStation p.own × IsStation p.station × (p.limit < 2 ^ 40)) };
 }
 
 impl<F: Folder> PeerNeighbour<F> {
@@ -90,24 +77,28 @@ impl<F: Folder> PeerNeighbour<F> {
     ghost use Rattle.rly_link_folder.specs.PeerNeighbour.{CoversIf, CoversTo, EntersAndGives, EntersNext, EntersPlace};
     ghost use Rattle.rly_link_folder.specs.PeerNeighbour.{FailsAtPlace, FailsToFind, FindsIn, Gives, GivesNumber};
     ghost use Rattle.rly_link_folder.specs.PeerNeighbour.{HasSameNumbers, Hears, HearsCustody, Lists, Opens, ServesIf};
-    ghost use Rattle.rly_link_folder.specs.PeerNeighbour.{data_with, has_more, has_window, is_further, is_on_its_way, is_serving};
-    ghost use Rattle.rly_link_folder.specs.PeerNeighbour.{packet_read, phase_read, phase_refused, question};
-    ghost use Rattle.rly_link_folder.specs.PeerNeighbour.{sent_read, tried_again};
+    ghost use Rattle.rly_link_folder.specs.PeerNeighbour.{data_with, file_data, has_more, has_window, is_further};
+    ghost use Rattle.rly_link_folder.specs.PeerNeighbour.{is_on_its_way, is_serving, packet_read, payload_with, phase_read};
+    ghost use Rattle.rly_link_folder.specs.PeerNeighbour.{phase_refused, question, sent_read, tried_again};
 
-    /// The station `own`, which this folder plays, for the peer's station `station`. At most `window` Data are on their way.
-    /// It asks first for the station's last number, by a Data 0 for the destination `probe`: one that has a route there.
+    /// The station `own`, which this folder plays, for the peer's station `station`. At most `window` Data are on their way,
+    /// each with the age limit `limit` in microseconds; 0 = none. It asks first for the station's last number, by a Data 0 for
+    /// the destination `probe`: one that has a route there.
     pub fn new(
         alloc: Global,
         own: StationId,
         station: StationId,
         rules: Admission,
         window: u64,
+        limit: u64,
         probe: u16,
         folder: F,
     ) -> Self
         requires stations { IsStation own × IsStation station }
+        requires limit { limit < 2 ^ 40 }
         ensures stations { (result.own ≡ own) × (result.station ≡ station) }
-        ensures limits { (result.rules ≡ rules) × (result.window ≡ window) × (result.probe ≡ probe) }
+        ensures limits { (result.rules ≡ rules) × (result.window ≡ window) × (result.limit ≡ limit) }
+        ensures probe { result.probe ≡ probe }
         ensures folder { inbox_folder result.inbox ≡ folder }
         ensures places { result.places ≡ [] }
         ensures phase { result.phase ≡ Phase.Asking }
@@ -117,6 +108,7 @@ impl<F: Folder> PeerNeighbour<F> {
             station,
             rules,
             window,
+            limit,
             probe,
             inbox: Inbox::closed(folder),
             places: VecDeque::new(alloc),
@@ -132,8 +124,16 @@ impl<F: Folder> PeerNeighbour<F> {
         self.phase
     }
 
+    /// Returns the folder, for a report.
+    pub fn folder(&self) -> &F
+        ensures { result.now ≡ inbox_folder self.now.inbox }
+    {
+        self.inbox.folder()
+    }
+
     /// Handles a packet of the station. The answer to Data 0 opens the folder; a Custody that goes on from the last one, up
-    /// to a number that has a file, removes the files up to it; a Refused of a number on its way ends the giving.
+    /// to a number that has a file, removes the files up to it; a Refused of a number on its way ends the giving, and one of
+    /// Data 0 the asking.
     pub fn hear(&mut self, packet: &[u8])
         ensures { Hears F.state (news_of self.old.own self.old.station (message_in (Some packet.now))) self.old self.new }
     {
@@ -157,7 +157,8 @@ impl<F: Folder> PeerNeighbour<F> {
             Phase::Serving => self.serve(buffer),
             Phase::Failed => None,
             Phase::Asked => None,
-            Phase::Apart => None,
+            Phase::QuestionRefused { .. } => None,
+            Phase::Apart { .. } => None,
             Phase::Refused { .. } => None,
         }
     }
@@ -176,9 +177,14 @@ impl<F: Folder> PeerNeighbour<F> {
     {
         match self.phase {
             Phase::Failed | Phase::Asked => self.phase = Phase::Asking,
+            Phase::QuestionRefused { refusal } if !is_for_good(refusal) => self.phase =
+                Phase::Asking,
             Phase::Serving => self.restart(),
             Phase::Refused { refusal, .. } if !is_for_good(refusal) => self.restart(),
-            Phase::Asking | Phase::Apart | Phase::Refused { .. } => {}
+            Phase::Asking
+            | Phase::QuestionRefused { .. }
+            | Phase::Apart { .. }
+            | Phase::Refused { .. } => {}
         }
     }
 
@@ -199,16 +205,22 @@ impl<F: Folder> PeerNeighbour<F> {
             Phase::Refused { .. } => self.cover(custody),
             Phase::Failed => {}
             Phase::Asking => {}
-            Phase::Apart => {}
+            Phase::QuestionRefused { .. } => {}
+            Phase::Apart { .. } => {}
         }
     }
 
     /// Handles a Refused.
     fn hear_refused(&mut self, number: u64, refusal: u8)
-        ensures { self.new ≡ record self.old { phase = phase_refused self.old number refusal } }
+        ensures { self.new ≡ record self.old { phase = phase_refused self.old.phase self.old number refusal } }
     {
-        if self.is_serving() && self.is_on_its_way(number) {
-            self.phase = Phase::Refused { number, refusal };
+        match self.phase {
+            Phase::Serving if self.is_on_its_way(number) => self.phase = Phase::Refused {
+                number,
+                refusal,
+            },
+            Phase::Asked if number == 0 => self.phase = Phase::QuestionRefused { refusal },
+            _ => {}
         }
     }
 
@@ -217,14 +229,20 @@ impl<F: Folder> PeerNeighbour<F> {
         ensures { Opens F.state custody self.old self.new }
     {
         match self.inbox.open_again(custody) {
-            Ok(true) => {
+            Ok(Joined::To(_)) => {
                 // A file whose call failed may be in `new/` still: the listing is taken anew, so the files stay in order.
                 self.places.clear();
                 self.sent = custody;
                 self.phase = Phase::Serving;
                 self.release(custody);
             }
-            Ok(false) => self.phase = Phase::Apart,
+            Ok(Joined::Apart { least, greatest }) => {
+                self.phase = Phase::Apart {
+                    custody,
+                    least,
+                    greatest,
+                }
+            }
             Err(_) => self.phase = Phase::Failed,
         }
     }
@@ -259,7 +277,7 @@ impl<F: Folder> PeerNeighbour<F> {
     {
         self.phase = Phase::Asked;
         let payload = destination_bytes(self.probe);
-        self.write_data(0, &payload, buffer)
+        self.write_data(0, 0, &payload, buffer)
     }
 
     /// Gives the next Data, if one more may be on its way.
@@ -300,7 +318,7 @@ impl<F: Folder> PeerNeighbour<F> {
         ensures gives { GivesNumber F.state (option_map (λ count. take count buffer.new) result) self.old self.new }
     {
         match self.read(number) {
-            Ok(Some(payload)) => self.pass(number, &payload, buffer),
+            Ok(Some(file)) => self.pass(number, &file, buffer),
             Ok(None) => {
                 self.phase = Phase::Failed;
                 None
@@ -328,40 +346,63 @@ impl<F: Folder> PeerNeighbour<F> {
         self.inbox.give(number, MAX_PAYLOAD as usize + 1)
     }
 
-    /// Passes the payload of the next number on as its Data. One that no message holds is as one that the station refuses.
-    fn pass(&mut self, number: u64, payload: &[u8], buffer: &mut [u8]) -> Option<usize>
+    /// Passes the file of the next number on as its Data. One that no message holds is as one that the station refuses.
+    fn pass(&mut self, number: u64, file: &[u8], buffer: &mut [u8]) -> Option<usize>
         requires room { MAX_MESSAGE ≤ length buffer.old }
         requires next { number ≡ self.old.sent + 1 }
         requires durable { number ≤ last_of self.old.inbox }
         ensures bound { IfSome result (λ count. count ≤ length buffer.new) }
-        ensures packet { option_map (λ count. take count buffer.new) result ≡ packet_read self.old (Some payload.now) }
+        ensures packet { option_map (λ count. take count buffer.new) result ≡ packet_read self.old (Some file.now) }
         ensures after { self.new ≡ record self.old {
-          phase = phase_read self.old (Some payload.now);
-          sent = sent_read self.old (Some payload.now);
+          phase = phase_read self.old (Some file.now);
+          sent = sent_read self.old (Some file.now);
         } }
     {
-        if payload.len() as u64 > MAX_PAYLOAD {
+        if self.rules.payload_length(file) as u64 > MAX_PAYLOAD {
             let refusal = Refusal::TooLong.number();
             self.phase = Phase::Refused { number, refusal };
             return None;
         }
         self.sent = number;
-        self.write_data(number, payload, buffer)
+        self.write_file(number, file, buffer)
+    }
+
+    /// Writes the Data of a file at the front of a buffer.
+    fn write_file(&self, number: u64, file: &[u8], buffer: &mut [u8]) -> Option<usize>
+        requires room { MAX_MESSAGE ≤ length buffer.old }
+        requires short { length (payload_with self.now file.now) ≤ 8192 }
+        ensures bound { IfSome result (λ count. count ≤ length buffer.new) }
+        ensures packet { option_map (λ count. take count buffer.new) result
+            ≡ Some (spelling (file_data self.now number file.now)) }
+    {
+        let Some(destination) = self.rules.destination() else {
+            return self.write_data(number, self.limit, file, buffer);
+        };
+        let mut payload = [0; MAX_PAYLOAD as usize];
+        let length = write_after(destination, file, &mut payload);
+        self.write_data(number, self.limit, &payload[..length], buffer)
     }
 
     /// Writes a Data of this station at the front of a buffer.
-    fn write_data(&self, number: u64, payload: &[u8], buffer: &mut [u8]) -> Option<usize>
+    fn write_data(
+        &self,
+        number: u64,
+        limit: u64,
+        payload: &[u8],
+        buffer: &mut [u8],
+    ) -> Option<usize>
         requires room { MAX_MESSAGE ≤ length buffer.old }
+        requires limit { limit < 2 ^ 40 }
         requires short { length payload.now ≤ 8192 }
         ensures bound { IfSome result (λ count. count ≤ length buffer.new) }
         ensures packet { option_map (λ count. take count buffer.new) result
-            ≡ Some (spelling (data_with self.now number payload.now)) }
+            ≡ Some (spelling (data_with self.now number limit payload.now)) }
     {
         let message = Message::Data {
             from: self.own,
             to: self.station,
             number,
-            limit: 0,
+            limit,
             payload,
         };
         write_packet(message, buffer)
@@ -509,28 +550,4 @@ fn news_if(
     } else {
         None
     }
-}
-
-/// The state after a Custody that goes on.
-fn phase_covered(phase: Phase, custody: u64) -> Phase
-    ensures { result ≡ phase_covered phase custody }
-{
-    match phase {
-        Phase::Refused { number, .. } if number <= custody => Phase::Serving,
-        _ => phase,
-    }
-}
-
-/// Whether a refusal lasts until the plan changes: no route, a moment out of range, too long.
-fn is_for_good(refusal: u8) -> bool
-    ensures { result ≡ is_for_good refusal }
-{
-    matches!(refusal, 2 | 3 | 5)
-}
-
-/// A payload that names a destination and nothing else.
-fn destination_bytes(destination: u16) -> [u8; 2]
-    ensures { result ≡ destination_bytes destination }
-{
-    [(destination / 256) as u8, (destination % 256) as u8]
 }

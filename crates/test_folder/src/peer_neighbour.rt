@@ -35,6 +35,12 @@ const REFUSED: [&[u8]; 3] = [
     b"\x52\x4c\x01\x03\x00\x07\x00\x09\x00\x00\x00\x00\x00\x00\x00\x07\x06",
 ];
 
+/// Data 0 is refused: the spool is full, or there is no route.
+const QUESTION_REFUSED: [&[u8]; 2] = [
+    b"\x52\x4c\x01\x03\x00\x07\x00\x09\x00\x00\x00\x00\x00\x00\x00\x00\x06",
+    b"\x52\x4c\x01\x03\x00\x07\x00\x09\x00\x00\x00\x00\x00\x00\x00\x00\x02",
+];
+
 /// Packets that change nothing: a byte, Custody 4 of another station, for another station, a Data, a Heard.
 const STRAYS: [&[u8]; 5] = [
     b"R",
@@ -45,19 +51,19 @@ const STRAYS: [&[u8]; 5] = [
 ];
 
 /// An empty packet in a script: nothing came for a while.
-const SILENCE: &[u8] = b"";
+pub(crate) const SILENCE: &[u8] = b"";
 
 /// A packet that comes, and the packets that are given after it.
-type Row = (&'static [u8], &'static [&'static [u8]]);
+pub(crate) type Row = (&'static [u8], &'static [&'static [u8]]);
 
 /// The neighbour 9 of station 7, in whose window two Data fit.
 pub(crate) fn neighbour<R: Abort, F: Folder>(rt: &R, alloc: Global, folder: F) -> PeerNeighbour<F> {
-    let rules = Admission::new([12].to_vec(alloc).expect(rt, "memory"), 4);
-    PeerNeighbour::new(alloc, StationId(9), StationId(7), rules, 2, 12, folder)
+    let rules = Admission::new([12].to_vec(alloc).expect(rt, "memory"), 4, None);
+    PeerNeighbour::new(alloc, StationId(9), StationId(7), rules, 2, 0, 12, folder)
 }
 
 /// Other programs put these files into `new/`, from 1 on, durably.
-fn filled<R: Abort>(rt: &R, alloc: Global, files: &[&[u8]]) -> MemFolder {
+pub(crate) fn filled<R: Abort>(rt: &R, alloc: Global, files: &[&[u8]]) -> MemFolder {
     let mut folder = MemFolder::new(alloc);
     let mut number = 1;
     for file in files {
@@ -78,7 +84,11 @@ fn expect_next<R: Abort, F: Folder>(rt: &R, far: &mut PeerNeighbour<F>, packet: 
 }
 
 /// Plays a script.
-fn expect_script<R: Abort, F: Folder>(rt: &R, far: &mut PeerNeighbour<F>, script: &[Row]) {
+pub(crate) fn expect_script<R: Abort, F: Folder>(
+    rt: &R,
+    far: &mut PeerNeighbour<F>,
+    script: &[Row],
+) {
     let mut number = 0;
     for row in script {
         match row.0 {
@@ -159,20 +169,62 @@ fn a_refused_data_waits(rt: HostRuntime) {
     expect_left(&rt, far, &[6], 0);
 }
 
-/// A file of this number and length in `sent/`.
-fn with_sent<R: Abort>(rt: &R, alloc: Global, number: u64, length: usize) -> MemFolder {
+/// A refused question is told, and changes nothing else. It is asked again after a silence, unless the refusal is for good.
+#[test]
+fn a_refused_question_waits(rt: HostRuntime) {
+    let mut far = neighbour(&rt, rt.alloc(), two_files(&rt, rt.alloc()));
+    let start: &[Row] = &[(SILENCE, &[QUESTION]), (QUESTION_REFUSED[0], &[])];
+    expect_script(&rt, &mut far, start);
+    expect!(rt; far.phase() == Phase::QuestionRefused { refusal: 6 });
+    let again: &[Row] = &[(CUSTODY[0], &[]), (SILENCE, &[QUESTION]), (REFUSED[1], &[])];
+    expect_script(&rt, &mut far, again);
+    expect!(rt; far.phase() == Phase::Asked);
+    let at_last: &[Row] = &[
+        (QUESTION_REFUSED[1], &[]),
+        (SILENCE, &[]),
+        (CUSTODY[0], &[]),
+    ];
+    expect_script(&rt, &mut far, at_last);
+    expect!(rt; far.phase() == Phase::QuestionRefused { refusal: 2 });
+    let mut folder = far.into_folder();
+    expect_listed(&rt, &mut folder, Area::New, &[1, 2], 0);
+    expect_listed(&rt, &mut folder, Area::Sent, &[], 1);
+}
+
+/// Once the question was answered a refusal of Data 0 says nothing.
+#[test]
+fn a_late_refusal_of_the_question_is_nothing(rt: HostRuntime) {
+    let mut far = neighbour(&rt, rt.alloc(), two_files(&rt, rt.alloc()));
+    let script: &[Row] = &[
+        (SILENCE, &[QUESTION]),
+        (CUSTODY[0], &[DATA[0], DATA[1]]),
+        (QUESTION_REFUSED[1], &[]),
+    ];
+    expect_script(&rt, &mut far, script);
+    expect!(rt; far.phase() == Phase::Serving);
+}
+
+/// Files of these numbers and this length in `sent/`.
+pub(crate) fn with_sent<R: Abort>(
+    rt: &R,
+    alloc: Global,
+    numbers: &[u64],
+    length: usize,
+) -> MemFolder {
     let mut folder = MemFolder::new(alloc);
-    let file = vec![in alloc; 0; length].expect(rt, "memory");
-    let area = Area::Sent;
-    folder.put(Name { area, number }, file).expect(rt, "memory");
+    for number in numbers {
+        let file = vec![in alloc; 0; length].expect(rt, "memory");
+        let (area, number) = (Area::Sent, *number);
+        folder.put(Name { area, number }, file).expect(rt, "memory");
+    }
     folder.sync().expect(rt, "no fault");
     folder
 }
 
-/// Nothing is given or removed if `sent/` doesn't go on from the station's number.
+/// Nothing is given or removed if `sent/` doesn't go on from the station's number: both numbers are told.
 #[test]
 fn a_folder_that_is_apart_stays_shut(rt: HostRuntime) {
-    let mut far = neighbour(&rt, rt.alloc(), with_sent(&rt, rt.alloc(), 6, 3));
+    let mut far = neighbour(&rt, rt.alloc(), with_sent(&rt, rt.alloc(), &[6, 7, 9], 3));
     let script: &[Row] = &[
         (SILENCE, &[QUESTION]),
         (CUSTODY[0], &[]),
@@ -180,14 +232,19 @@ fn a_folder_that_is_apart_stays_shut(rt: HostRuntime) {
         (CUSTODY[2], &[]),
     ];
     expect_script(&rt, &mut far, script);
-    expect!(rt; far.phase() == Phase::Apart);
-    expect_left(&rt, far, &[6], 0);
+    let apart = Phase::Apart {
+        custody: 4,
+        least: 6,
+        greatest: 9,
+    };
+    expect!(rt; far.phase() == apart);
+    expect_left(&rt, far, &[6, 7, 9], 0);
 }
 
 /// A file of `sent/` that no message holds is as one that the station refuses as too long.
 #[test]
 fn a_file_that_grew_too_long_is_refused(rt: HostRuntime) {
-    let mut far = neighbour(&rt, rt.alloc(), with_sent(&rt, rt.alloc(), 5, 8_193));
+    let mut far = neighbour(&rt, rt.alloc(), with_sent(&rt, rt.alloc(), &[5], 8_193));
     expect_script(&rt, &mut far, &[(SILENCE, &[QUESTION]), (CUSTODY[0], &[])]);
     expect!(rt; far.phase() == Phase::Refused { number: 5, refusal: 5 });
     expect_left(&rt, far, &[5], 0);

@@ -7,12 +7,12 @@ returns-then-number-last-clause-ok g c = old_ok g.F.Folder.state c.args.form c.a
 
 pub returns-in-Ok-clause-ok : goal.returns-in-Ok-clause-ok
 returns-in-Ok-clause-ok g c = printed_ok g.F.Folder.state c.args.form c.args.last c.args.number _ _ _ _ _ (search arith) c.deref.result.now
-    (rw c.deref.ensures.value (rw c.in-Some.is at c.in_ok-payload.ensures.ok)) c.in-Ok.ensures c.keep_and_remove.result c.keep_and_remove.ensures.ok
+    (rw c.deref.ensures.value (rw c.in-Some.is at c.in_ok-payload.ensures.ok)) c.in-Ok.ensures.whole c.keep_and_remove.result c.keep_and_remove.ensures.ok
 
 pub returns-in-Ok-clause-err : goal.returns-in-Ok-clause-err
 returns-in-Ok-clause-err g c = printed_err g.F.Folder.state c.args.form c.args.last c.args.number _ _ _ _ _ (search arith) c.deref.result.now
-    (rw c.deref.ensures.value (rw c.in-Some.is at c.in_ok-payload.ensures.ok)) c.in-Ok.ensures c.keep_and_remove.result c.keep_and_remove.ensures.err
+    (rw c.deref.ensures.value (rw c.in-Some.is at c.in_ok-payload.ensures.ok)) c.in-Ok.ensures.whole c.keep_and_remove.result c.keep_and_remove.ensures.err
 
 pub returns-clause-err : goal.returns-clause-err
 returns-clause-err g c = output_err g.F.Folder.state c.args.form c.args.last c.args.number (g.W.Write.contents c.args.out.now) (g.W.Write.contents c.print.new.out) (search arith) c.deref.result.now
-    (rw c.deref.ensures.value (rw c.in-Some.is at c.in_ok-payload.ensures.ok))
+    (rw c.deref.ensures.value (rw c.in-Some.is at c.in_ok-payload.ensures.ok)) c.in-Err.ensures.begun

@@ -1,7 +1,7 @@
 use Rattle.std.proofs.Common.{◌≡◌, ◌∙◌, ap, sym}
 use Rattle.rly_link_folder.proofs.Peers.{asked}
 use Rattle.rly_link_folder.specs.PeerNeighbour.{Peer}
-use Rattle.rly_link_folder.specs.declared.peer_neighbour.Phase.TheVariants.{Asked}
+use Rattle.rly_link_folder.specs.declared.phase.Phase.TheVariants.{Asked}
 use Rattle.rly_link_folder.proofs.peer_neighbour.PeerNeighbour.hear_custody.Goals as goal
 
 pub returns-in-Asked : goal.returns-in-Asked

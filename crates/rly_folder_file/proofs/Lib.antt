@@ -1,0 +1,4 @@
+pub mod FileCalls
+pub mod FileNames
+pub mod Ordered
+pub mod Sending

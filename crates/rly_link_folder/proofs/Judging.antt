@@ -1,0 +1,34 @@
+-- The bytes of a file that tell whether its datagram is refused.
+use Rattle.std.proofs.Common.{◌≡◌, ◌+◌, arith, refl, ℕ, Bool, List, [], ◌∷◌, None, Some, Option, length, suc}
+use Rattle.std.proofs.lemmas.Bool.Decides.{nat_tests}
+use Rattle.std.proofs.lemmas.List.{length-take}
+use Rattle.std.specs.Prelude.{min, nat_lt, take}
+use Rattle.rly_link_folder.specs.Inbox.{destination_of, longest_of, payload_in, routes_of}
+use Rattle.rly_link_folder.specs.InboxCalls.{destination_in, is_routed, payload_of, reason_for, reason_of}
+use Rattle.rly_link_folder.specs.declared.admission.Admission.{Admission}
+
+-- two bytes more than the longest payload tell whether one is longer, also behind two others
+is_longer : (longest size : ℕ) → nat_lt longest (min (longest + 2) size) ≡ nat_lt longest size
+is_longer longest size = grind (arith, nat_tests)
+
+is_longer_behind : (longest size : ℕ) → nat_lt longest (suc (suc (min (longest + 2) size))) ≡ nat_lt longest (suc (suc size))
+is_longer_behind longest size = grind (arith, nat_tests)
+
+-- the first two bytes of a list are those of a longer front
+same_destination : (longest : ℕ) (file : List ℕ) → destination_in (take (longest + 2) file) ≡ destination_in file
+same_destination longest [] = let e : longest + 2 ≡ suc (longest + 1) = omega arith in rw e refl
+same_destination longest (high ∷ []) = let e : longest + 2 ≡ suc (suc longest) = omega arith in rw e refl
+same_destination longest (high ∷ low ∷ rest) = let e : longest + 2 ≡ suc (suc longest) = omega arith in rw e refl
+
+judges : (routed : ℕ → Bool) (longest : ℕ) (destination : Option ℕ) (file : List ℕ)
+    → reason_for routed (nat_lt longest (length (payload_of destination (take (longest + 2) file))))
+    (destination_in (payload_of destination (take (longest + 2) file)))
+    ≡ reason_for routed (nat_lt longest (length (payload_of destination file))) (destination_in (payload_of destination file))
+judges routed longest None file = rw (length-take (longest + 2) file, is_longer longest (length file), same_destination longest file) refl
+judges routed longest (Some destination) file =
+    rw (length-take (longest + 2) file, is_longer_behind longest (length file)) refl
+
+pub judges_law : (rules : Admission) (file : List ℕ)
+    → reason_of (routes_of rules) (longest_of rules) (payload_in rules (take (longest_of rules + 2) file))
+    ≡ reason_of (routes_of rules) (longest_of rules) (payload_in rules file)
+judges_law rules file = judges (is_routed (routes_of rules)) (longest_of rules) (destination_of rules) file
