@@ -19,11 +19,31 @@ destination = 12
 hop = 1
 """
 
+# The same with a folder in place of each station, which has every key that a folder may have.
+FOLDERS = """station = 7
+[[peer]]
+id = 1
+station = 3
+folder = "in"
+destination = 12
+limit = 60000
+[[hop]]
+id = 1
+station = 9
+folder = "out"
+most = 100
+lead = 30
+contacts = [[100, 200], [300, 350]]
+[[route]]
+destination = 12
+hop = 1
+"""
 
-def changed(old, new):
-    """The whole plan with `new` in place of the first `old`."""
-    at = WHOLE.index(old)
-    return WHOLE[:at] + new + WHOLE[at + len(old):]
+
+def changed(old, new, text=WHOLE):
+    """The text with `new` in place of the first `old`."""
+    at = text.index(old)
+    return text[:at] + new + text[at + len(old):]
 
 
 def neighbours(count, more=""):

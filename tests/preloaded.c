@@ -5,6 +5,8 @@
  *
  * With SLOW_MICROS a receive that finds nothing, and each poll, first wait a random time of up to as many microseconds: what falls
  * between a look and the sleep after it falls there often.
+ *
+ * With NO_LINKS each hard link is refused, as by a file system that has none.
  */
 #define _GNU_SOURCE
 #include <dlfcn.h>
@@ -78,4 +80,14 @@ ssize_t recvfrom(int fd, void *bytes, size_t count, int flags, struct sockaddr *
 int poll(struct pollfd *ends, nfds_t count, int timeout) {
     wait_a_while();
     return REAL(int, poll, struct pollfd *, nfds_t, int)(ends, count, timeout);
+}
+
+int linkat(int from_folder, const char *from, int to_folder, const char *to, int flags) {
+    if (!getenv("NO_LINKS")) return REAL(int, linkat, int, const char *, int, const char *, int)(from_folder, from, to_folder, to, flags);
+    errno = EPERM;
+    return -1;
+}
+
+int link(const char *from, const char *to) {
+    return linkat(AT_FDCWD, from, AT_FDCWD, to, 0);
 }

@@ -1,7 +1,7 @@
 """Texts that are no plan: the refusal of each, and where its first fault is (`docs/FORMATS.md`, "The plan")."""
 import re
 
-from plans import WHOLE, changed, neighbours
+from plans import FOLDERS, WHOLE, changed, neighbours
 from program import KEY, Rows
 
 # All that is said of a text that is no plan.
@@ -41,10 +41,10 @@ class Texts(Rows):
             number, place = self.fault(text)
             self.assertEqual(f"{number} {place}" if number else "", wanted)
 
-    def expect_places(self, rows):
-        """Each change of the whole plan gets its number and its place."""
+    def expect_places(self, rows, text=WHOLE):
+        """Each change of the text gets its number and its place."""
         for old, new, wanted in rows:
-            self.expect_place(wanted, changed(old, new), old=old, new=new)
+            self.expect_place(wanted, changed(old, new, text), old=old, new=new)
 
 
 class Numbers(Texts):
@@ -331,6 +331,67 @@ class Places(Texts):
             ("hop = 1\n", "hop = 65\n", "53 route[1].hop"),
         ])
         self.expect_place("53 peer", "station = 7\npeer = []\nhop = []\n")
+
+    def test_a_folder_has_its_own_keys(self):
+        """A table with `folder` has none of the keys of a socket, and each of its own may stand only there."""
+        self.expect_places([
+            ('folder = "in"\n', 'folder = "in"\nlisten = ""\n', "54 peer[1].listen"),
+            ('folder = "in"\n', 'folder = "in"\nremote = ""\n', "54 peer[1].remote"),
+            ('folder = "in"\n', 'folder = "in"\nkey = "k"\n', "54 peer[1].key"),
+            ('folder = "in"\n', 'folder = "in"\nmost = 5\n', "54 peer[1].most"),
+            ('folder = "in"\n', 'folder = "in"\nlead = 5\n', "54 peer[1].lead"),
+            ('folder = "in"\n', 'folder = { path = "in" }\n', "54 peer[1].folder"),
+            ('folder = "in"\n', "", "54 peer[1].destination"),
+            ('folder = "in"\ndestination = 12\n', "", "54 peer[1].limit"),
+            ('folder = "in"\ndestination = 12\nlimit = 60000\n', "", "50 peer[1].listen"),
+            ('folder = "out"\n', 'folder = "out"\nlisten = ""\n', "54 hop[1].listen"),
+            ('folder = "out"\n', 'folder = "out"\nkey = "k"\n', "54 hop[1].key"),
+            ('folder = "out"\n', 'folder = "out"\nresend = 160\n', "54 hop[1].resend"),
+            ('folder = "out"\n', 'folder = "out"\nrate = 160\n', "54 hop[1].rate"),
+            ('folder = "out"\n', 'folder = "out"\ndestination = 12\n', "54 hop[1].destination"),
+            ('folder = "out"\n', 'folder = "out"\nlimit = 12\n', "54 hop[1].limit"),
+            ('folder = "out"\n', "", "54 hop[1].most"),
+        ], FOLDERS)
+        self.expect_places([
+            ("station = 7", "station = 7\nfolder = 'a'", "54 the top"),
+            ("station = 3", "station = 3\nfolder = 'a'", "54 peer[1].listen"),
+            ("station = 3", "station = 3\ndestination = 12", "54 peer[1].destination"),
+            ("station = 3", "station = 3\nlimit = 12", "54 peer[1].limit"),
+            ("station = 9", "station = 9\nfolder = 'a'", "54 hop[1].listen"),
+            ("station = 9", "station = 9\nmost = 12", "54 hop[1].most"),
+            ("hop = 1\n", "hop = 1\nfolder = 'a'\n", "54 route[1].folder"),
+        ])
+
+    def test_the_keys_of_a_folder_have_their_types_and_ranges(self):
+        self.expect_places([
+            ("", "", ""),
+            ("destination = 12\n", "", ""),
+            ("limit = 60000\n", "", ""),
+            ("most = 100\n", "", ""),
+            ('"in"', '""', ""),
+            ('"in"', "3", "50 peer[1].folder"),
+            ('"out"', "['out']", "50 hop[1].folder"),
+            ("destination = 12", "destination = '12'", "50 peer[1].destination"),
+            ("destination = 12", "destination = 1", ""),
+            ("destination = 12", "destination = 65535", ""),
+            ("destination = 12", "destination = 0", "53 peer[1].destination"),
+            ("destination = 12", "destination = 65536", "53 peer[1].destination"),
+            ("destination = 12", "destination = -12", "53 peer[1].destination"),
+            ("limit = 60000", "limit = 60000.0", "50 peer[1].limit"),
+            ("limit = 60000", "limit = 1", ""),
+            ("limit = 60000", "limit = 1099511627", ""),
+            ("limit = 60000", "limit = 0", "53 peer[1].limit"),
+            ("limit = 60000", "limit = 1099511628", "53 peer[1].limit"),
+            ("limit = 60000", "limit = -1", "53 peer[1].limit"),
+            ("most = 100", "most = [100]", "50 hop[1].most"),
+            ("most = 100", "most = 1", ""),
+            ("most = 100", "most = 1000000", ""),
+            ("most = 100", "most = 0", "53 hop[1].most"),
+            ("most = 100", "most = 1000001", "53 hop[1].most"),
+            ("most = 100", "most = -1", "53 hop[1].most"),
+            ("most = 100", "most = 4294967297", "53 hop[1].most"),
+            ("lead = 30", "lead = 86401", "53 hop[1].lead"),
+        ], FOLDERS)
 
     def test_contacts_out_of_order_have_the_later_one(self):
         hop = "[[hop]]\nid = 2\nstation = 10\nlisten = ''\nremote = ''\ncontacts = "

@@ -1,7 +1,7 @@
 """What `rly plan` says of plans, at moments before, in, between and after their contacts (`docs/COMMANDS.md`, "rly plan")."""
 import os
 
-from plans import WHOLE, neighbours
+from plans import FOLDERS, WHOLE, changed, neighbours
 from program import KEY, Rows
 
 # Moments, and their dates as `date -u` and Python's `datetime` have them.
@@ -125,6 +125,16 @@ hop = [
 ]
 """
 
+# What the plan of folders says while its hop is open.
+FOLDERS_TOLD = """at 1970-01-01T00:00:00.00015Z 150
+station 7
+peer 1 station 3 folder in destination 12 limit 60000
+hop 1 station 9 folder out
+hop 1 resend 160 lead 30 most 100 contacts 2 open 150
+hop 1 contact open until 1970-01-01T00:00:00.0002Z 200
+route 12 hop 1
+"""
+
 
 class PlanTexts(Rows):
     def here(self, text):
@@ -190,6 +200,13 @@ class PlanTexts(Rows):
             "hop 1 station 9 listen  remote ",
             self.here("hop 2 station 10 listen  remote  key FOLDER/ten.key"),
         ])
+
+    def test_a_folder_stands_in_place_of_the_addresses(self):
+        """Nothing is asked of the folder. Without `most` it is full at 1,024 files."""
+        self.expect_told(FOLDERS, 150, FOLDERS_TOLD)
+        text = changed("most = 100\n", "", changed("destination = 12\nlimit = 60000\n", "", FOLDERS))
+        self.assertEqual(self.lines_with("station", text), ["peer 1 station 3 folder in", "hop 1 station 9 folder out"])
+        self.assertEqual(self.lines_with("resend", text), ["hop 1 resend 160 lead 30 most 1024 contacts 2 open 150"])
 
     def test_each_hop_has_its_resend(self):
         self.assertEqual(self.lines_with("resend", RESENDS), [

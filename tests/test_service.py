@@ -6,8 +6,11 @@ import signal
 import socket
 import struct
 import subprocess
+import sys
 import time
 import unittest
+from importlib.machinery import SourceFileLoader
+from importlib.util import module_from_spec, spec_from_loader
 
 from program import RLY, TOP, Rows
 
@@ -15,6 +18,9 @@ SYSTEMD = "/lib/systemd/systemd"
 OWN, PEER = 7, 3
 # How long it may take until a station that ended serves again: the unit's pause is 5 seconds.
 AGAIN = 10.0
+# The number of the station's user and group, which have one name, and that of a user of the group.
+STATION, APPLICATION = 64001, 64002
+NAME = "rly-of-the-test"
 # The namespaces, and in them systemd with one unit. Nothing of the machine's own units is started.
 START = """
 mount --make-rprivate /
@@ -22,6 +28,8 @@ mount -t tmpfs tmpfs /run
 mkdir -p /run/systemd/system/rly.service.d
 cp "$1"/try.target "$1"/rly.service /run/systemd/system
 cp "$1"/place.conf /run/systemd/system/rly.service.d
+mount --bind "$1"/passwd /etc/passwd
+mount --bind "$1"/group /etc/group
 container=docker exec /lib/systemd/systemd --system --unit=try.target --log-target=console --show-status=no
 """
 NAMESPACES = ["unshare", "--fork", "--kill-child", "--pid", "--mount", "--uts", "--ipc", "--mount-proc"]
@@ -34,8 +42,57 @@ def may_run():
     return subprocess.run([*NAMESPACES, "mount", "--make-rprivate", "/"], capture_output=True).returncode == 0
 
 
+def packaged_unit():
+    """The unit as the package has it."""
+    sys.dont_write_bytecode = True
+    loader = SourceFileLoader("package", f"{TOP}/package")
+    made = module_from_spec(spec_from_loader("package", loader))
+    loader.exec_module(made)
+    return made.unit(*made.UNIT)
+
+
 @unittest.skipUnless(may_run(), "no systemd that may have namespaces of its own")
-class Services(Rows):
+class Units(Rows):
+    """A systemd with the unit."""
+
+    # Who runs the station, and in what group.
+    user, group = "root", "root"
+
+    def free_port(self):
+        with socket.socket(socket.AF_INET, socket.SOCK_DGRAM) as keeper:
+            keeper.bind(("127.0.0.1", 0))
+            return keeper.getsockname()[1]
+
+    def serve(self):
+        """Starts systemd with the unit, once it has started another program under the same restrictions."""
+        self.start_unit(f"/bin/touch {self.path('started')}", "Restart=no\n").kill()
+        if not os.path.exists(self.path("started")):
+            self.skipTest("this systemd starts no program under the unit's restrictions")
+        self.start_unit(f"{RLY} serve {self.path('device.rly')} {self.path('plan.toml')}")
+
+    def start_unit(self, command, more=""):
+        """Starts systemd with the unit, whose program, files and user alone are the test's. Of a trial it waits for the file."""
+        place = f"[Unit]\nDefaultDependencies=no\n[Service]\nExecStart=\nExecStart={command}\nDynamicUser=no\n"
+        place += f"User={self.user}\nGroup={self.group}\n"
+        place += f"PrivateTmp=no\nReadWritePaths={self.folder}\nStandardError=file:{self.path('errors')}\n"
+        place += f"CapabilityBoundingSet=~\nPrivateDevices=no\nProtectHome=no\n{more}"
+        self.write("place.conf", place, 0o644)
+        with open("/etc/passwd") as passwd, open("/etc/group") as group:
+            self.write("passwd", f"{passwd.read()}{NAME}:x:{STATION}:{STATION}::/:/usr/sbin/nologin\n", 0o644)
+            self.write("group", f"{group.read()}{NAME}:x:{STATION}:\n", 0o644)
+        self.write("try.target", "[Unit]\nDefaultDependencies=no\nWants=rly.service\n", 0o644)
+        self.write("rly.service", self.unit, 0o644)
+        with open(self.path("log"), "wb") as log:
+            run = subprocess.Popen([*NAMESPACES, "sh", "-c", START, "sh", self.folder], stdout=log, stderr=log)
+        self.addCleanup(run.wait)
+        self.addCleanup(run.kill)
+        until = time.monotonic() + AGAIN
+        while more and not os.path.exists(self.path("started")) and time.monotonic() < until:
+            time.sleep(0.05)
+        return run
+
+
+class Services(Units):
     """A station of one peer, whose neighbour is this test."""
 
     def setUp(self):
@@ -55,35 +112,6 @@ class Services(Rows):
         self.make_small("device.rly")
         with open(f"{TOP}/examples/rly.service") as file:
             self.unit = file.read()
-
-    def free_port(self):
-        with socket.socket(socket.AF_INET, socket.SOCK_DGRAM) as keeper:
-            keeper.bind(("127.0.0.1", 0))
-            return keeper.getsockname()[1]
-
-    def serve(self):
-        """Starts systemd with the unit, once it has started another program under the same restrictions."""
-        self.start_unit(f"/bin/touch {self.path('started')}", "Restart=no\n").kill()
-        if not os.path.exists(self.path("started")):
-            self.skipTest("this systemd starts no program under the unit's restrictions")
-        self.start_unit(f"{RLY} serve {self.path('device.rly')} {self.path('plan.toml')}")
-
-    def start_unit(self, command, more=""):
-        """Starts systemd with the unit, whose program, files and user alone are the test's. Of a trial it waits for the file."""
-        place = f"[Unit]\nDefaultDependencies=no\n[Service]\nExecStart=\nExecStart={command}\nDynamicUser=no\nUser=root\n"
-        place += f"PrivateTmp=no\nReadWritePaths={self.folder}\nStandardError=file:{self.path('errors')}\n"
-        place += f"CapabilityBoundingSet=~\nPrivateDevices=no\nProtectHome=no\n{more}"
-        self.write("place.conf", place, 0o644)
-        self.write("try.target", "[Unit]\nDefaultDependencies=no\nWants=rly.service\n", 0o644)
-        self.write("rly.service", self.unit, 0o644)
-        with open(self.path("log"), "wb") as log:
-            run = subprocess.Popen([*NAMESPACES, "sh", "-c", START, "sh", self.folder], stdout=log, stderr=log)
-        self.addCleanup(run.wait)
-        self.addCleanup(run.kill)
-        until = time.monotonic() + AGAIN
-        while more and not os.path.exists(self.path("started")) and time.monotonic() < until:
-            time.sleep(0.05)
-        return run
 
     def is_answered(self):
         """Whether the station answers a Data with number 0 at once."""
@@ -143,6 +171,45 @@ class Services(Rows):
         self.assertFalse(self.is_answered())
         self.write("plan.toml", self.plan, 0o644)
         self.expect_served()
+
+
+class Folders(Units):
+    """A station of two folders under the packaged unit, and an application of another user of its group."""
+
+    user = group = NAME
+
+    def setUp(self):
+        super().setUp()
+        os.chmod(self.folder, 0o755)
+        self.unit = packaged_unit()
+        self.write(
+            "plan.toml",
+            f'station = {OWN}\npeer = [{{id = 1, station = {PEER}, folder = "spool/in", destination = 12}}]\n'
+            'hop = [{id = 1, station = 9, folder = "spool/out", contacts = [[0, 4503599627370495]]}]\n'
+            "route = [{destination = 12, hop = 1}]\n",
+            0o644,
+        )
+        self.make_small("device.rly")
+        # As the package leaves /var/spool/rly; the application makes its own folders there.
+        os.mkdir(self.path("spool"))
+        for name in ("", "device.rly", "spool"):
+            os.chown(self.path(name), STATION, STATION)
+        os.chmod(self.path("spool"), 0o2770)
+        self.application("mkdir", self.path("spool/in"), self.path("spool/out"), umask=0o007)
+
+    def application(self, *words, input=b"", umask=0o022):
+        done = subprocess.run(
+            words, input=input, capture_output=True, timeout=AGAIN, user=APPLICATION, group=APPLICATION, extra_groups=[STATION], umask=umask
+        )
+        self.assertEqual((done.returncode, done.stderr), (0, b""))
+        return done.stdout
+
+    def test_another_user_of_its_group_puts_and_gets(self):
+        self.serve()
+        for payload in (b"wave!", b"calm."):
+            self.application(RLY, "put", self.path("spool/in"), "--wait", "8", input=payload)
+            self.assertEqual(self.application(RLY, "get", self.path("spool/out"), "--count", "1", "--follow"), payload)
+        self.assertEqual([os.stat(self.path(f"spool/{it}/new")).st_mode & 0o7777 for it in ("in", "out")], [0o2770, 0o2770])
 
 
 if __name__ == "__main__":

@@ -1,6 +1,6 @@
 -- The result of a run of the program, by its command line (docs/COMMANDS.md).
-use Rattle.std.specs.Prelude.{◌≡◌, ◌⊎◌, ℕ, ◌+◌, ◌≤◌, ◌==◌, MatchBool, List, [], ◌∷◌, ◌++◌, length, IfSome}
-use Rattle.std.specs.Prelude.{Bool, Option, None, true, false, codes}
+use Rattle.std.specs.Prelude.{◌≡◌, ◌⊎◌, ℕ, ◌+◌, ◌-◌, ◌^◌, ◌≤◌, ◌==◌, MatchBool, List, [], ◌∷◌, ◌++◌, length, IfSome, ⊤}
+use Rattle.std.specs.Prelude.{Bool, Option, None, true, false, codes, unwrap_or}
 use Rattle.std.specs.Fmt.{decimal}
 use Rattle.std.specs.Io.KnownBytes.{Appends}
 use Rattle.rly_core.specs.Limits.{IsWithinLimits}
@@ -16,12 +16,15 @@ use Rattle.rly_daemon_reporter.specs.declared.reporter.ReporterEnd.{ReporterEnd}
 use Rattle.rly_daemon_reporter.specs.declared.reporter.ReporterEnd.TheVariants.{Closed, NoneDue}
 use Rattle.rly_segment.specs.Device.{IsLayout, device_length}
 use Rattle.rly_daemon_args.specs.declared.given.Settings.{Settings}
-use Rattle.rly_daemon_args.specs.declared.given.Settings.TheVariants.{Sim, Format, Play, Audit, Serve, Key, Plan}
+use Rattle.rly_daemon_args.specs.declared.given.Settings.TheVariants.{Sim, Format, Play, Audit, Serve, Key, Plan, Put, Get}
 use Rattle.rly_daemon_commands.specs.Commands.{HasFormatted, HasPlayed, HasReport}
 use Rattle.rly_daemon_commands.specs.FileDisk.{file_state}
 use Rattle.rly_daemon_commands.specs.FormatCommand.{wanted_geometry}
 use Rattle.rly_daemon_commands.specs.NewKey.{HasKey}
 use Rattle.rly_daemon_commands.specs.PlanCommand.{HasShownPlan}
+use Rattle.rly_daemon_folder.specs.FolderCommands.{HasPrinted, HasPut, is_over}
+use Rattle.rly_daemon_folder.specs.declared.input_form.InputForm.{InputForm}
+use Rattle.rly_folder_clients.specs.declared.form.Form.{Form}
 use Rattle.rly_daemon.specs.CountedDisk.{counted_state}
 use Rattle.rly_disk.specs.DiskModel.{DiskState}
 use Rattle.rly_daemon_serve.specs.ReportedRelay.{HasReports}
@@ -30,6 +33,8 @@ use Rattle.rly_station.specs.Workers.{workers_of}
 use Rattle.rly_daemon_lines.specs.Text.{text_for}
 use Rattle.rly_daemon_commands.specs.declared.file_disk.FileDisk.{FileDisk}
 use Rattle.rly_daemon.specs.declared.counted_disk.CountedDisk.{CountedDisk}
+use Rattle.rly_daemon.specs.declared.program_fault.ProgramFault.{ProgramFault}
+use Rattle.rly_daemon.specs.declared.program_fault.ProgramFault.TheVariants.{Command, Folder}
 
 -- the log line for the end
 abbrev pub ended_line : ℕ → List ℕ
@@ -74,24 +79,46 @@ HasServedWith turns report true old new told = HasServedReporting turns None Non
 HasServedWith turns report false old new told =
     MatchBool (report == 0) ((new ≡ old) × HasServed turns told) (HasServedReporting turns old new told)
 
+-- the form of an input, and that of a payload, by the options
+abbrev pub put_form : Bool → Option ℕ → InputForm
+put_form lines destination = record { lines = lines; destination = destination }
+
+abbrev pub get_form : (lines raw : Bool) → Form
+get_form lines raw = record { raw = raw; lines = lines }
+
 -- a command that succeeded: the reader before and after it, the bytes available to read, those of the writer before
 -- and after it, and those of standard error
-abbrev pub IsDone : {R : Type 0} → Settings → R → R → Option (List ℕ) → Option (List ℕ) → Option (List ℕ)
+abbrev pub IsDone : {R : Type 0} → (H : Type 0) → Settings → R → R → Option (List ℕ) → Option (List ℕ) → Option (List ℕ)
     → Option (List ℕ) → Option (List ℕ) → Type 0
-IsDone (Sim params) before behind left old new told_old told_new = IsWithinLimits params
+IsDone H (Sim params) before behind left old new told_old told_new = IsWithinLimits params
     × IfSome left (λ input. Appends old new (text_for (new_state params) input)) × (told_new ≡ told_old)
-IsDone (Format file params segments length force) before behind left old new told_old told_new = (behind ≡ before)
+IsDone H (Format file params segments length force) before behind left old new told_old told_new = (behind ≡ before)
     × HasFormatted (wanted_geometry params segments length) force old new × (told_new ≡ told_old)
-IsDone (Play file batch) before behind left old new told_old told_new =
+IsDone H (Play file batch) before behind left old new told_old told_new =
     HasPlayed batch left old new × (told_new ≡ told_old)
-IsDone (Audit file) before behind left old new told_old told_new =
+IsDone H (Audit file) before behind left old new told_old told_new =
     (behind ≡ before) × HasReport old new × (told_new ≡ told_old)
-IsDone (Serve file plan turns report gather events) before behind left old new told_old told_new = (behind ≡ before)
+IsDone H (Serve file plan turns report gather events) before behind left old new told_old told_new = (behind ≡ before)
     × HasServedWith turns report events old new told_new
-IsDone Key before behind left old new told_old told_new =
+IsDone H Key before behind left old new told_old told_new =
     (behind ≡ before) × HasKey old new × (told_new ≡ told_old)
-IsDone (Plan plan at) before behind left old new told_old told_new =
+IsDone H (Plan plan at) before behind left old new told_old told_new =
     (behind ≡ before) × HasShownPlan at old new × (told_new ≡ told_old)
+IsDone H (Put folder lines destination wait) before behind left old new told_old told_new =
+    HasPut H folder.now (put_form lines destination) left × (new ≡ old) × (told_new ≡ told_old)
+IsDone H (Get folder lines raw count follow) before behind left old new told_old told_new = (behind ≡ before)
+    × HasPrinted H folder.now (get_form lines raw) (unwrap_or count (2 ^ 64 - 1)) follow old new
+    × (told_new ≡ told_old)
+
+-- a command that may end while a wait isn't over
+abbrev pub Waits : Settings → Type 0
+Waits (Put folder lines destination wait) = ⊤
+Waits _ = ⊥
+
+-- the wait of a command is over
+abbrev pub is_wait_over : ProgramFault → Bool
+is_wait_over (Command fault) = false
+is_wait_over (Folder fault) = is_over fault
 
 -- the values of a spool or of a device are out of their limits
 abbrev pub IsOutOfLimits : Settings → Type 0

@@ -1,17 +1,22 @@
 //! The program: its command line, its commands and its status.
 
-ghost use Rattle.std.specs.Prelude.{◌≡◌, ◌≤◌, ◌⊎◌, [], Err, OnOk, map};
+ghost use Rattle.std.specs.Prelude.{◌≡◌, ◌≤◌, ◌⊎◌, [], Err, IfErr, OnOk, if◌then◌else◌, map, true};
+ghost use denote.Ref.{Bor};
 ghost use Rattle.rly_daemon_args.specs.CommandLine.{AsksHelp, IsSettings, asked_of, kinds_at};
 ghost use Rattle.rly_daemon_args.specs.declared.given.Settings.{Settings as ASettings};
+ghost use Rattle.rly_daemon_commands.specs.NewKey.{HasKey};
 ghost use Rattle.rly_daemon.specs.Helpers.{WasAsked};
-ghost use Rattle.rly_daemon.specs.Program.{IsDone, IsOutOfLimits};
+ghost use Rattle.rly_daemon.specs.Program.{IsDone, IsOutOfLimits, Waits, is_wait_over};
 
+use crate::folder_commands::{get_files, put_files};
+use crate::program_fault::ProgramFault;
 use crate::serve_command::run_serving;
 use rly_core::Refusal;
 use rly_daemon_args::{Settings, SettingsFault, settings};
 use rly_daemon_commands::{
     CommandFault, run_audit, run_format, run_plan, run_play, run_sim, write_key,
 };
+use rly_daemon_folder::Form;
 use rly_daemon_lines::TextFault;
 use rly_daemon_serve::RelaySettings;
 use rly_station::Cause;
@@ -25,8 +30,8 @@ use std::sync::Wait;
 use std::thread::Threads;
 use std::time::{Clock, Duration};
 
-/// The requirements of the program on its runtime. Only `rly serve` uses the network, and starts threads and waits
-/// for them; only `rly key` uses randomness.
+/// The requirements of the program on its runtime. Only `rly serve` starts threads and waits for them; it, `rly put` and
+/// `rly get` use the network, and only `rly key` uses randomness.
 pub trait Host: AllocGlobal
     + Files<File = File>
     + Net
@@ -40,8 +45,8 @@ impl<H: AllocGlobal + Files<File = File> + Net + Threads + Wait + Clock + Random
     for H {}
 
 /// Runs the program on a command line, the program's name first, and returns its exit status: 0, even if reply
-/// lines are refusals; 1 if a command failed, or a journal ended broken; 2 for a bad command line. Replies, help
-/// and version go to `writer`, errors to `errors`.
+/// lines are refusals; 1 if a command failed, or a journal ended broken; 2 for a bad command line; 3 if a put has no
+/// custody yet after its wait. Replies, help and version go to `writer`, errors to `errors`.
 pub fn run<H: Host, S: AsStr, R: Read, W: Write + Send, E: Write>(
     rt: &H,
     words: &[S],
@@ -49,20 +54,25 @@ pub fn run<H: Host, S: AsStr, R: Read, W: Write + Send, E: Write>(
     writer: &mut W,
     errors: &mut E,
 ) -> u8
-    ensures status { result ≤ 2 }
+where
+    H::Dir: Send + Sync,
+    ensures status { result ≤ 3 }
     // A bad command line is refused before anything is read, and writes only the reason.
     ensures bad { result ≡ 2 → (reader.new ≡ reader.old) × (writer.new ≡ writer.old) }
     // If it succeeds, the words ask for help or the version, or their command was executed.
     ensures done { result ≡ 0 → (AsksHelp (map S.text words.now) × (reader.new ≡ reader.old))
         ⊎ ((settings : ASettings) × IsSettings (asked_of (map S.text words.now)) settings
         × (kinds_at (map S.text words.now) ≡ [])
-        × IsDone settings reader.old reader.new (R.remaining reader.old) (W.contents writer.old) (W.contents writer.new)
-        (E.contents errors.old) (E.contents errors.new)) }
+        × IsDone (Bor H) settings reader.old reader.new (R.remaining reader.old) (W.contents writer.old)
+        (W.contents writer.new) (E.contents errors.old) (E.contents errors.new)) }
+    // Only a put waits for custody.
+    ensures over { result ≡ 3 → (settings : ASettings) × IsSettings (asked_of (map S.text words.now)) settings
+        × Waits settings }
 {
     match settings(rt.alloc(), words) {
         Ok(settings) => match obey(rt, settings, reader, writer, errors) {
             Ok(()) => 0,
-            Err(fault) => fail(&fault, errors),
+            Err(fault) => report_fault(&fault, errors),
         },
         Err(fault) => report_settings_fault(&fault, writer, errors),
     }
@@ -92,26 +102,33 @@ fn obey<H: Host, R: Read, W: Write + Send, E: Write>(
     reader: &mut R,
     writer: &mut W,
     errors: &mut E,
-) -> Result<(), CommandFault>
+) -> Result<(), ProgramFault>
+where
+    H::Dir: Send + Sync,
     ensures done { OnOk result
-        (IsDone settings.entry reader.old reader.new (R.remaining reader.old) (W.contents writer.old)
+        (IsDone (Bor H) settings.entry reader.old reader.new (R.remaining reader.old) (W.contents writer.old)
         (W.contents writer.new)
         (E.contents errors.old) (E.contents errors.new)) }
+    ensures over { IfErr result (λ fault. is_wait_over fault ≡ true → Waits settings.entry) }
     ensures refused { IsOutOfLimits settings.entry
-        → (result ≡ Err (CommandFault.Refused Refusal.BadGeometry Cause.Options))
+        → (result ≡ Err (ProgramFault.Command (CommandFault.Refused Refusal.BadGeometry Cause.Options)))
         × (reader.new ≡ reader.old) × (writer.new ≡ writer.old) }
 {
     match settings {
-        Settings::Sim { params } => run_sim(rt.alloc(), params, reader, writer),
+        Settings::Sim { params } => {
+            ProgramFault::of(run_sim(rt.alloc(), params, reader, writer))
+        }
         Settings::Format {
             file,
             params,
             segments,
             length,
             force,
-        } => run_format(rt, file, params, segments, length, force, writer),
-        Settings::Play { file, batch } => run_play(rt, file, batch, reader, writer),
-        Settings::Audit { file } => run_audit(rt, file, writer),
+        } => ProgramFault::of(run_format(rt, file, params, segments, length, force, writer)),
+        Settings::Play { file, batch } => {
+            ProgramFault::of(run_play(rt, file, batch, reader, writer))
+        }
+        Settings::Audit { file } => ProgramFault::of(run_audit(rt, file, writer)),
         Settings::Serve {
             file,
             plan,
@@ -124,14 +141,32 @@ fn obey<H: Host, R: Read, W: Write + Send, E: Write>(
                 turns,
                 gather: Duration::from_millis(gather),
             };
-            run_serving(rt, file, plan, settings, report, events, writer, errors)
+            ProgramFault::of(run_serving(rt, file, plan, settings, report, events, writer, errors))
         }
-        Settings::Key => {
-            write_key(rt, writer)?;
-            Ok(())
-        }
-        Settings::Plan { plan, at } => run_plan(rt, plan, at, writer),
+        Settings::Key => ProgramFault::of(new_key(rt, writer)),
+        Settings::Plan { plan, at } => ProgramFault::of(run_plan(rt, plan, at, writer)),
+        Settings::Put {
+            folder,
+            lines,
+            destination,
+            wait,
+        } => put_files(rt, folder, lines, destination, wait, reader),
+        Settings::Get {
+            folder,
+            lines,
+            raw,
+            count,
+            follow,
+        } => get_files(rt, folder, Form { raw, lines }, count, follow, writer),
     }
+}
+
+/// Writes a new key.
+fn new_key<H: Host, W: Write>(rt: &H, writer: &mut W) -> Result<(), CommandFault>
+    ensures written { OnOk result (HasKey (W.contents writer.old) (W.contents writer.new)) }
+{
+    write_key(rt, writer)?;
+    Ok(())
 }
 
 /// Writes help or the version, and returns the status.
@@ -152,6 +187,14 @@ fn complain<T: Display, E: Write>(text: &T, errors: &mut E) -> u8
     // Ignore errors: nowhere left to report.
     let _told = write!(errors, "{text}");
     2
+}
+
+/// Writes the error of the program, and returns its status.
+fn report_fault<E: Write>(fault: &ProgramFault, errors: &mut E) -> u8
+    ensures { result ≡ (if is_wait_over fault.now then 3 else 1) }
+{
+    let status = fail(fault, errors);
+    if fault.is_wait_over() { 3 } else { status }
 }
 
 /// Writes the error of a command, and returns its status.

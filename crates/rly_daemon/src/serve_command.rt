@@ -41,6 +41,8 @@ pub(crate) fn run_serving<H: Host, W: Write + Send, E: Write>(
     writer: &mut W,
     errors: &mut E,
 ) -> Result<(), CommandFault>
+where
+    H::Dir: Send + Sync,
     ensures served { OnOk result
         (HasServedWith settings.turns seconds events (W.contents writer.old) (W.contents writer.new)
         (E.contents errors.new)) }
@@ -64,6 +66,8 @@ fn serve_plan<H: Host, E: Write>(
     settings: RelaySettings,
     errors: &mut E,
 ) -> Result<(), CommandFault>
+where
+    H::Dir: Send + Sync,
     requires { IsSoundPlan plan.now }
     ensures served { OnOk result (HasServed settings.turns (E.contents errors.new)) }
 {
@@ -87,6 +91,8 @@ fn report_plan<H: Host, W: Write + Send, E: Write>(
     writer: &mut W,
     errors: &mut E,
 ) -> Result<(), CommandFault>
+where
+    H::Dir: Send + Sync,
     requires { IsSoundPlan plan.now }
     ensures served { OnOk result
         (HasServedReporting settings.turns (W.contents writer.old) (W.contents writer.new) (E.contents errors.new)) }
@@ -119,6 +125,8 @@ fn watch_plan<H: Host, W: Write + Send, E: Write>(
     writer: &mut W,
     errors: &mut E,
 ) -> Result<(), CommandFault>
+where
+    H::Dir: Send + Sync,
     requires { IsSoundPlan plan.now }
     ensures served { OnOk result (HasServedReporting settings.turns None None (E.contents errors.new)) }
 {

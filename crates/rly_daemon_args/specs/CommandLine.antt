@@ -10,7 +10,7 @@ use Rattle.clap.specs.declared.error.Error.{Error}
 use Rattle.clap.specs.declared.error.kind.ErrorKind.TheVariants as kind
 use Rattle.rly_core.specs.declared.params.Params.{Params}
 use Rattle.rly_daemon_args.specs.declared.given.Settings.{Settings}
-use Rattle.rly_daemon_args.specs.declared.given.Settings.TheVariants.{Sim, Format, Play, Audit, Serve, Key, Plan}
+use Rattle.rly_daemon_args.specs.declared.given.Settings.TheVariants.{Sim, Format, Play, Audit, Serve, Key, Plan, Put, Get}
 use Rattle.rly_daemon_args.specs.declared.given.SettingsFault.{SettingsFault}
 use Rattle.rly_daemon_args.specs.declared.given.SettingsFault.TheVariants.{Asked, CommandLine, OutOfMemory}
 
@@ -48,6 +48,10 @@ gather_rule = record (option_rule (codes "gather") (codes "0")) { parser = Some 
 -- the moment at which a plan is shown, below 2^52
 abbrev pub at_rule : Rule
 at_rule = record (number_rule (codes "at")) { parser = Some (parser.Unsigned 0 4503599627370495) }
+
+-- the destination of files, the number of a station
+abbrev pub destination_rule : Rule
+destination_rule = record (number_rule (codes "destination")) { parser = Some (parser.Unsigned 1 65535) }
 
 -- a command with the options for the payload bytes of a spool, for CoDel and for the longest payload
 abbrev pub with_more_rules : App → App
@@ -93,6 +97,14 @@ key_app = new_app (codes "key")
 unfoldable pub plan_app : App
 plan_app = with_rule (with_rule (new_app (codes "plan")) (path_rule (codes "plan"))) at_rule
 
+unfoldable pub put_app : App
+put_app = with_rule (with_rule (with_rule (with_rule (new_app (codes "put")) (path_rule (codes "folder")))
+    (flag_rule (codes "lines"))) destination_rule) (number_rule (codes "wait"))
+
+unfoldable pub get_app : App
+get_app = with_rule (with_rule (with_rule (with_rule (with_rule (new_app (codes "get")) (path_rule (codes "folder")))
+    (flag_rule (codes "lines"))) (flag_rule (codes "raw"))) (number_rule (codes "count"))) (flag_rule (codes "follow"))
+
 -- the program: a version, and a required command
 unfoldable pub rly_top : App
 rly_top = let new = new_app (codes "rly") in
@@ -103,8 +115,8 @@ rly_top = let new = new_app (codes "rly") in
 unfoldable pub rly_app : App
 rly_app =
     with_subcommand (with_subcommand (with_subcommand (with_subcommand (with_subcommand (with_subcommand
-    (with_subcommand rly_top sim_app.top) format_app.top) play_app.top) audit_app.top) serve_app.top) key_app.top)
-    plan_app.top
+    (with_subcommand (with_subcommand (with_subcommand rly_top sim_app.top) format_app.top) play_app.top)
+    audit_app.top) serve_app.top) key_app.top) plan_app.top) put_app.top) get_app.top
 
 -- ---- the request in its matches
 
@@ -168,6 +180,17 @@ IsSettings (Some (command, rows)) Key = command ≡ codes "key"
 IsSettings (Some (command, rows)) (Plan plan at) = (command ≡ codes "plan")
     × (plan.now ≡ path_in (codes "plan") rows)
     × ReadsNumber (one_of (codes "at") rows) at
+IsSettings (Some (command, rows)) (Put folder lines destination wait) = (command ≡ codes "put")
+    × (folder.now ≡ path_in (codes "folder") rows)
+    × HasFlag rows (codes "lines") lines
+    × ReadsNumber (one_of (codes "destination") rows) destination
+    × ReadsNumber (one_of (codes "wait") rows) wait
+IsSettings (Some (command, rows)) (Get folder lines raw count follow) = (command ≡ codes "get")
+    × (folder.now ≡ path_in (codes "folder") rows)
+    × HasFlag rows (codes "lines") lines
+    × HasFlag rows (codes "raw") raw
+    × ReadsNumber (one_of (codes "count") rows) count
+    × HasFlag rows (codes "follow") follow
 
 -- ---- its errors
 

@@ -1,8 +1,8 @@
 ghost use Rattle.std.specs.Prelude.{◌≡◌, false};
 ghost use Rattle.clap.specs.Words.{App, Rule, rule_of, with_rule};
 ghost use Rattle.rly_daemon_args.specs.HelpersBuilt.{IsBuilt};
-ghost use Rattle.rly_daemon_args.specs.CommandLine.{at_rule, batch_rule, flag_rule, gather_rule, number_rule, option_rule};
-ghost use Rattle.rly_daemon_args.specs.CommandLine.{path_rule, with_more_rules, with_param_rules};
+ghost use Rattle.rly_daemon_args.specs.CommandLine.{at_rule, batch_rule, destination_rule, flag_rule, gather_rule};
+ghost use Rattle.rly_daemon_args.specs.CommandLine.{number_rule, option_rule, path_rule, with_more_rules, with_param_rules};
 
 use clap::{Arg, ArgAction, Command, value_parser};
 use rly_core::limits;
@@ -16,6 +16,9 @@ const MAX_GATHER: i64 = 60_000;
 
 /// The last moment of a plan, in microseconds since the Unix epoch.
 const LAST_MOMENT: i64 = limits::MOMENT_LIMIT as i64 - 1;
+
+/// The greatest number of a station.
+const LAST_STATION: i64 = 65_535;
 
 /// Adds an argument to a command. `Err`: out of memory.
 pub(crate) fn with_arg<'a>(
@@ -194,6 +197,19 @@ pub(crate) fn at<'a>(alloc: Global) -> Arg<'a>
         "Moment in microseconds since the Unix epoch, 0 to 4503599627370495; default: now",
     )
     .value_parser(value_parser!(u64).range(0..=LAST_MOMENT))
+}
+
+/// The option for the destination of a file.
+pub(crate) fn destination<'a>(alloc: Global) -> Arg<'a>
+    ensures rule { rule_of result ≡ destination_rule }
+    ensures own { result.global ≡ false }
+{
+    number(
+        alloc,
+        "destination",
+        "Destination of each payload, a station, 1 to 65535: its two bytes are put before the payload",
+    )
+    .value_parser(value_parser!(u64).range(1..=LAST_STATION))
 }
 
 /// An option with a number and a default.

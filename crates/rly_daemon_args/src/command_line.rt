@@ -26,9 +26,9 @@ const DEFAULT_REPORT: u64 = 0;
 /// The default number of milliseconds for which a round waits for more calls: 0, not at all.
 const DEFAULT_GATHER: u64 = 0;
 
-/// Parses a command line, the program's name first. Faults are a value that is no `u64`, a batch, a moment or a wait of a
-/// round out of its limits, an unknown or a repeated option, and a missing command or file; all other limits are checked
-/// later.
+/// Parses a command line, the program's name first. Faults are a value that is no `u64`, a batch, a moment, a wait of a
+/// round or a destination out of its limits, an unknown or a repeated option, and a missing command, file or folder; all
+/// other limits are checked later.
 pub fn settings<'a, S: AsStr>(alloc: Global, words: &'a [S]) -> Result<Settings<'a>, SettingsFault>
     // Each name, number and file is that of clap's matches, or the default.
     ensures asked { IfOk result (λ settings. IsSettings (asked_of (map S.text words.now)) settings) }
@@ -86,6 +86,9 @@ fn settings_of<'a>(matches: &ArgMatches<'a>) -> Option<Settings<'a>>
             at: given_number(options, "at"),
         });
     }
+    if let Some(settings) = folder_settings_of(matches) {
+        return Some(settings);
+    }
     let options = options_of(matches, "serve")?;
     Some(Settings::Serve {
         file: path_of(options, "file"),
@@ -94,6 +97,28 @@ fn settings_of<'a>(matches: &ArgMatches<'a>) -> Option<Settings<'a>>
         report: number_of(options, "report", DEFAULT_REPORT),
         gather: number_of(options, "gather", DEFAULT_GATHER),
         events: has_flag(options, "events"),
+    })
+}
+
+/// The settings of the matched command, if it is one over a folder.
+fn folder_settings_of<'a>(matches: &ArgMatches<'a>) -> Option<Settings<'a>>
+    ensures { IfSome result (λ settings. IsSettings (subcommand_rows_of matches.now) settings) }
+{
+    if let Some(options) = options_of(matches, "put") {
+        return Some(Settings::Put {
+            folder: path_of(options, "folder"),
+            lines: has_flag(options, "lines"),
+            destination: given_number(options, "destination"),
+            wait: given_number(options, "wait"),
+        });
+    }
+    let options = options_of(matches, "get")?;
+    Some(Settings::Get {
+        folder: path_of(options, "folder"),
+        lines: has_flag(options, "lines"),
+        raw: has_flag(options, "raw"),
+        count: given_number(options, "count"),
+        follow: has_flag(options, "follow"),
     })
 }
 

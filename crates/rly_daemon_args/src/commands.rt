@@ -1,11 +1,11 @@
 ghost use Rattle.std.specs.Prelude.{◌≡◌, true};
 ghost use Rattle.clap.specs.Words.{App, app_of, new_app, with_subcommand};
 ghost use Rattle.rly_daemon_args.specs.HelpersBuilt.{IsBuilt};
-ghost use Rattle.rly_daemon_args.specs.CommandLine.{audit_app, format_app, key_app, plan_app, play_app, rly_app};
-ghost use Rattle.rly_daemon_args.specs.CommandLine.{rly_top, serve_app, sim_app};
+ghost use Rattle.rly_daemon_args.specs.CommandLine.{audit_app, format_app, get_app, key_app, plan_app, play_app};
+ghost use Rattle.rly_daemon_args.specs.CommandLine.{put_app, rly_app, rly_top, serve_app, sim_app};
 
 use crate::arguments::{
-    at, batch, flag, gather, number, with_arg, with_option, with_params, with_path,
+    at, batch, destination, flag, gather, number, with_arg, with_option, with_params, with_path,
 };
 use clap::Command;
 use std::alloc::{AllocError, Global};
@@ -56,6 +56,24 @@ const PLANNED: &str =
 whether a contact is open at the moment, until when, and the total open time of its contacts in
 microseconds. If a plan is refused, standard error has the location of its first fault.";
 
+/// Notes in the help of `put`.
+const PUT: &str =
+    "A station whose plan names the folder as a peer takes the files in their order, each once; it need not run yet.
+Each payload is at most 8192 bytes. Without `--destination` the plan names the destination of all files, or each
+payload begins with the two bytes of its own. Status 0: each file is durable in the folder, or with `--wait` in
+the station's custody. 1: a file was refused, or a call failed; standard error has the reason. 3: the wait is over.
+A put that is killed is there once or not at all. Sub-folders that are missing are made. At 16384 files that wait
+nothing is put.";
+
+/// Notes in the help of `get`.
+const GET: &str =
+    "A station whose plan names the folder as a hop adds the files. Each is removed once its payload was printed and
+flushed: after a kill the last payload may be printed again, and no other. Without `--follow` it prints the files
+that are there, and ends with status 0 also if there is none. One `get` at a time uses a folder.";
+
+/// The help of a folder's path.
+const FOLDER: &str = "The folder of a peer or a hop, as the contact plan names it";
+
 /// The help of a plan's path.
 const PLAN: &str =
     "The contact plan, a TOML file: peers and hops, their addresses, contacts and routes";
@@ -73,7 +91,9 @@ pub(crate) fn program<'a>(alloc: Global) -> Result<Command<'a>, AllocError>
     let with_audit = with_command(with_play, audit(alloc));
     let with_serve = with_command(with_audit, serve(alloc));
     let with_key = with_command(with_serve, Ok(key(alloc)));
-    with_command(with_key, plan(alloc))
+    let with_plan = with_command(with_key, plan(alloc));
+    let with_put = with_command(with_plan, put(alloc));
+    with_command(with_put, get(alloc))
 }
 
 /// The program, without its commands.
@@ -213,6 +233,63 @@ fn plan<'a>(alloc: Global) -> Result<Command<'a>, AllocError>
     );
     let with_file = with_path(alloc, Ok(bare), "plan", "PLAN", PLAN);
     with_arg(with_file, at(alloc))
+}
+
+fn put<'a>(alloc: Global) -> Result<Command<'a>, AllocError>
+    ensures { IsBuilt put_app result }
+{
+    let bare = command_with_help(
+        alloc,
+        "put",
+        "Put standard input into a folder, for the station that has it as a peer",
+        PUT,
+    );
+    let with_folder = with_path(alloc, Ok(bare), "folder", "FOLDER", FOLDER);
+    let lines = flag(
+        alloc,
+        "lines",
+        "Put each line as a file, without its newline; default: all of the input as one file",
+    );
+    let with_lines = with_arg(with_folder, lines);
+    let with_destination = with_arg(with_lines, destination(alloc));
+    let wait = number(
+        alloc,
+        "wait",
+        "Seconds to wait for the station's custody after the last file was put; default: no wait",
+    );
+    with_arg(with_destination, wait)
+}
+
+fn get<'a>(alloc: Global) -> Result<Command<'a>, AllocError>
+    ensures { IsBuilt get_app result }
+{
+    let bare = command_with_help(
+        alloc,
+        "get",
+        "Print the files that came into a folder, and remove them",
+        GET,
+    );
+    let with_folder = with_path(alloc, Ok(bare), "folder", "FOLDER", FOLDER);
+    let lines = flag(alloc, "lines", "Print a newline after each payload");
+    let with_lines = with_arg(with_folder, lines);
+    let raw = flag(
+        alloc,
+        "raw",
+        "Print each payload with the two bytes of its destination; default: without them",
+    );
+    let with_raw = with_arg(with_lines, raw);
+    let count = number(
+        alloc,
+        "count",
+        "Maximum payloads to print; default: no maximum",
+    );
+    let with_count = with_arg(with_raw, count);
+    let follow = flag(
+        alloc,
+        "follow",
+        "Wait for more files, until interrupted or `--count` payloads are printed",
+    );
+    with_arg(with_count, follow)
 }
 
 /// A command with its help texts.

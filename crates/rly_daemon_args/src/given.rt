@@ -60,6 +60,30 @@ pub enum Settings<'a> {
         /// The moment in microseconds since the Unix epoch, below 2^52: `None` for now.
         at: Option<u64>,
     },
+    /// Standard input is put into the folder of a peer.
+    Put {
+        /// The path of the folder.
+        folder: &'a str,
+        /// Whether each line is a file of its own.
+        lines: bool,
+        /// The station whose two bytes come before each payload, 1 to 65,535.
+        destination: Option<u64>,
+        /// Seconds for which it waits for the station's custody after its last file: `None` = not at all.
+        wait: Option<u64>,
+    },
+    /// The files in the folder of a hop are printed and removed.
+    Get {
+        /// The path of the folder.
+        folder: &'a str,
+        /// Whether a newline follows each payload.
+        lines: bool,
+        /// Whether each payload is printed with its destination.
+        raw: bool,
+        /// The maximum number of payloads to print: `None` for no maximum.
+        count: Option<u64>,
+        /// Whether it waits for more.
+        follow: bool,
+    },
 }
 
 /// The fault of a command line without settings.

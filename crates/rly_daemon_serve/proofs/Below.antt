@@ -4,8 +4,8 @@ use Rattle.std.proofs.lemmas.List.{append-nil}
 use Rattle.rly_daemon_reporter.specs.TalliedLink.{link_below}
 use Rattle.rly_daemon_reporter.specs.declared.tallied_link.TalliedLink.{TalliedLink}
 use Rattle.rly_daemon_serve.specs.Helpers.{post_below}
-use Rattle.rly_link_udp.specs.Duties.{PostOver, StationPost, duty_at, duty_over}
-use Rattle.rly_link_udp.specs.declared.neighbour_link.NeighbourLink.{NeighbourLink}
+use Rattle.rly_posts.specs.Duties.{PostOver, StationPost, duty_at, duty_over}
+use Rattle.rly_posts.specs.declared.neighbour_link.NeighbourLink.{NeighbourLink}
 
 at_below : {B C : Type 0} (told : List (PostOver (TalliedLink (NeighbourLink C) B) C)) → map (duty_over link_below) told ≡ map duty_at (map post_below told)
 at_below [] = refl

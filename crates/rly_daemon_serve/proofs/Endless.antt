@@ -4,8 +4,8 @@ use Rattle.std.proofs.lemmas.Bool.{and_parts}
 use Rattle.std.proofs.lemmas.List.Folds.{list_all-append}
 use Rattle.std.proofs.lemmas.Option.{IfSome_then, none-some}
 use Rattle.std.specs.List.{AllZip, list_all, zip}
-use Rattle.std.specs.Option.{is_none, option_map, unwrap_or}
-use Rattle.std.specs.Prelude.{Err, IfOk, IfSome, None, Ok, OnOk, Option, Result, Some}
+use Rattle.std.specs.Option.{is_none, unwrap_or}
+use Rattle.std.specs.Prelude.{Err, IfOk, IfSome, None, Ok, OnOk, Option, Result, Some, option_and_then}
 use Rattle.rly_core.specs.declared.params.Params.{Params}
 use Rattle.rly_disk.specs.DiskModel.{DiskState}
 use Rattle.rly_journal.specs.Journal.{JournalState}
@@ -15,21 +15,20 @@ use Rattle.rly_line.proofs.Closing.{as_many_names}
 use Rattle.rly_line.specs.EndViews.{names_of}
 use Rattle.rly_daemon_serve.specs.ServedRelay.{HasRunOver, clock_endless, clock_log, waker_woken}
 use Rattle.rly_station.proofs.CountedWorkers.{workers_count}
-use Rattle.rly_link_udp.proofs.CountedPosts.{posts_count}
+use Rattle.rly_posts.proofs.CountedPosts.{posts_count}
 use Rattle.rly_station.specs.Keys.{AreKeysOf}
-use Rattle.rly_link_udp.specs.Duties.{Duty, PostOver, addresses_of, duties, duty_of, duty_over}
-use Rattle.rly_station.specs.Workers.{workers_of}
+use Rattle.rly_posts.specs.Duties.{Duty, LinkDuty, PostOver, duties, duty_of, duty_over, link_duty, link_duty_at}
+use Rattle.rly_station.specs.Workers.{neighbour_of, workers_of}
+use Rattle.rly_plan.specs.declared.neighbour.Neighbour.{Neighbour}
 use Rattle.rly_line.specs.Replies.{ReplyId}
 use Rattle.rly_line.specs.Seats.{new_callers}
 use Rattle.rly_line.specs.Submission.{LineId}
 use Rattle.rly_plan.specs.ContactPlan.{ContactPlan, next_hop_at, peer_at}
 use Rattle.rly_plan.specs.Sound.{IsSoundPlan}
-use Rattle.rly_plan_syntax.specs.Endpoints.{Endpoints}
-use Rattle.rly_link_udp.specs.Neighbour.{neighbour_heard, neighbour_sent}
-use Rattle.rly_link_udp.specs.declared.neighbour_link.NeighbourLink.{NeighbourLink}
+use Rattle.rly_posts.specs.Neighbour.{neighbour_heard, neighbour_sent}
+use Rattle.rly_posts.specs.declared.neighbour_link.NeighbourLink.{NeighbourLink}
 use Rattle.rly_link_udp.specs.declared.sender_waker.SenderWaker.{SenderWaker}
 use Rattle.rly_link_udp.specs.declared.wall_clock.WallClock.{WallClock}
-use Rattle.rly_link_auth.specs.StationLink.{link_below}
 use Rattle.rly_threads.specs.declared.relay.Ended.{Ended}
 use Rattle.rly_threads.specs.declared.relay.Relayed.{Relayed}
 use Rattle.rly_link.specs.declared.turn.Go.{Go}
@@ -54,15 +53,15 @@ record WasOff (old new : EndsView) : Type 0 where
 ran_ended : {C : Type 0} (old new : EndsView) (w : Worker) (d : Done C) → Ran old new w d → WasOff old new
 ran_ended old new w d ran = record { worker = w; before = d.handed; last = ran.last; off = ran.off; handed = ran.handed }
 
-if_there : {N : Type 0} (o : Option N) (f : N → Endpoints) (a : Endpoints) (Q : Type 0) → Some a ≡ option_map f o → IfSome o (λ _. Q) → Q
+if_there : {N : Type 0} (o : Option N) (f : N → Option LinkDuty) (a : LinkDuty) (Q : Type 0) → Some a ≡ option_and_then f o → IfSome o (λ _. Q) → Q
 if_there None f a Q e q = absurd (none-some _ (sym e))
 if_there (Some n) f a Q e q = q
 
-worked_ended : (plan : ContactPlan) (params : Params) (w : Worker) (a : Endpoints) (old new : EndsView) → Some a ≡ addresses_of plan w → HasWorked plan params w old new → WasOff old new
-worked_ended plan params (worker.Receiver peer) a old new there worked =
-    if_there (peer_at plan peer) (λ n. n.addresses) a (WasOff old new) there (IfSome_then (peer_at plan peer) worked.1 (λ n did. ran_ended old new (worker.Receiver peer) _ did.3))
-worked_ended plan params (worker.Sender hop) a old new there worked =
-    if_there (next_hop_at plan hop) (λ n. n.addresses) a (WasOff old new) there (IfSome_then (next_hop_at plan hop) worked.1 (λ n did. ran_ended old new (worker.Sender hop) _ did.3))
+worked_ended : (plan : ContactPlan) (params : Params) (w : Worker) (f : Neighbour → Option LinkDuty) (d : LinkDuty) (old new : EndsView) → Some d ≡ option_and_then f (neighbour_of plan w) → HasWorked plan params w old new → WasOff old new
+worked_ended plan params (worker.Receiver peer) f d old new there worked =
+    if_there (peer_at plan peer) f d (WasOff old new) there (IfSome_then (peer_at plan peer) worked.1 (λ n did. ran_ended old new (worker.Receiver peer) _ did.3))
+worked_ended plan params (worker.Sender hop) f d old new there worked =
+    if_there (next_hop_at plan hop) f d (WasOff old new) there (IfSome_then (next_hop_at plan hop) worked.1 (λ n did. ran_ended old new (worker.Sender hop) _ did.3))
 
 -- the ticks of a clock, if a worker was to continue at each
 on_mapped : (looks : List Look) → list_all (λ (h : Handed). h.2.on) (map (λ (l : Look). l.handed) looks) ≡ all_on looks
@@ -111,9 +110,10 @@ endless_goes_on below plan links params longest line (name ∷ names) number (po
     let did = worked.0 in
     let first = first_duty _ _ plan longest 0 links e in
     let is : post.worker ≡ first.0.worker = ap (λ d. d.worker) first.1 in
-    let there : Some (link_below (below post.link).link.link).addresses.value ≡ addresses_of plan post.worker = ap (λ d. d.addresses) first.1 ∙ ap (addresses_of plan) (sym is) in
+    let at_far = link_duty_at plan longest 0 first.0 in
+    let there : Some (link_duty (below post.link)) ≡ option_and_then at_far (neighbour_of plan post.worker) = ap (λ d. d.link) first.1 ∙ ap (λ w. option_and_then at_far (neighbour_of plan w)) (sym is) in
     let none : post.turn.left ≡ None = ap (λ d. d.left) first.1 in
-    let end = worked_ended plan params post.worker (link_below (below post.link).link.link).addresses.value _ _ there did.worked in
+    let end = worked_ended plan params post.worker at_far (link_duty (below post.link)) _ _ there did.worked in
     let not_cut : was_cut did.looks ≡ false = sym did.was_cut ∙ not_false left.was_cut (and_parts (not left.was_cut) (list_all has_run_out ended) all).0 in
     let whole : map (λ l. l.handed) did.looks ≡ end.before ++ (end.worker, Start, end.last) ∷ [] =
     uncut did.looks not_cut ∙ ap (λ (o : Option (List Handed)). unwrap_or o []) end.handed in

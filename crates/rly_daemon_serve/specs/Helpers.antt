@@ -1,12 +1,10 @@
 -- Helpers of private functions.
-use Rattle.std.specs.Prelude.{Option}
 use Rattle.std.specs.Option.{option_map_or}
 use Rattle.rly_hop.specs.declared.message.StationId.{StationId}
 use Rattle.rly_link.specs.declared.post.Post.{Post}
 use Rattle.rly_link.specs.declared.turn.Worker.{Worker}
-use Rattle.rly_link.specs.declared.turn.Worker.TheVariants.{Receiver, Sender}
-use Rattle.rly_plan.specs.ContactPlan.{ContactPlan, next_hop_at, peer_at}
-use Rattle.rly_plan.specs.declared.neighbour.Neighbour.{Neighbour}
+use Rattle.rly_plan.specs.ContactPlan.{ContactPlan}
+use Rattle.rly_station.specs.Workers.{neighbour_of}
 use Rattle.rly_daemon_reporter.specs.declared.tallied_link.TalliedLink.{TalliedLink}
 use Rattle.rly_daemon_reporter.specs.TalliedLink.{link_below}
 
@@ -19,11 +17,6 @@ post_below post =
 abbrev pub own_station : ContactPlan → StationId
 own_station plan = record { 0 = plan.station }
 
--- a worker's neighbour, if the plan has it
-abbrev pub neighbour_at : ContactPlan → Worker → Option Neighbour
-neighbour_at plan (Receiver peer) = peer_at plan peer
-neighbour_at plan (Sender hop) = next_hop_at plan hop
-
--- its station: 0 if the plan doesn't have it
+-- the station of a worker's neighbour: 0 if the plan doesn't have it
 abbrev pub station_of : ContactPlan → Worker → StationId
-station_of plan worker = record { 0 = option_map_or (λ n. n.station) (neighbour_at plan worker) 0 }
+station_of plan worker = record { 0 = option_map_or (λ n. n.station) (neighbour_of plan worker) 0 }

@@ -10,13 +10,13 @@ use Rattle.rly_journal.specs.Journal.{JournalState}
 use Rattle.rly_plan.specs.ContactPlan.{ContactPlan}
 use Rattle.rly_link.specs.Memory.{handed_of, woken_of}
 use Rattle.rly_link.specs.LinkHistory.{Handed}
-use Rattle.rly_link_udp.specs.Duties.{PostOver, duties, duty_over}
+use Rattle.rly_posts.specs.Duties.{PostOver, duties, duty_over}
 use Rattle.rly_station.specs.Workers.{workers_of}
 use Rattle.rly_station.specs.declared.file_fault.Cause.TheVariants.{NoCause}
 use Rattle.rly_station.specs.declared.serve_fault.ServeFault.{ServeFault}
 use Rattle.rly_station.specs.declared.serve_fault.ServeFault.TheVariants.{Refused, Unreported, Worker}
-use Rattle.rly_link_udp.specs.Neighbour.{neighbour_heard, neighbour_sent}
-use Rattle.rly_link_udp.specs.declared.neighbour_link.NeighbourLink.{NeighbourLink}
+use Rattle.rly_posts.specs.Neighbour.{neighbour_heard, neighbour_sent}
+use Rattle.rly_posts.specs.declared.neighbour_link.NeighbourLink.{NeighbourLink}
 use Rattle.rly_station.specs.declared.plan_keys.KeyedWorker.{KeyedWorker}
 use Rattle.rly_link_udp.specs.declared.sender_waker.SenderWaker.{SenderWaker}
 use Rattle.rly_link_udp.specs.declared.wall_clock.WallClock.{WallClock}
@@ -51,9 +51,10 @@ end_fault false true false = Some Unreported
 end_fault false true true = None
 
 -- A relay of a plan was started on a journal, and has ended. Each worker of the plan that had a thread did at its post and
--- its seat what the plan says of it, from its start to its end, and left that post. Early Data are kept up to
--- the longest message of the spool, which has the journal's parameters. Its link is sealed with the key that there is
--- for it, and no other link is. A socket tells nothing of what it heard and sent; a seat, a clock and a waker tell all.
+-- its seat what the plan says of it, from its start to its end, and left that post. Its link leads to the socket or the folder
+-- that the plan names. Early Data are kept, and files taken, up to the longest message of the spool, which has the journal's
+-- parameters. A socket is sealed with the key that there is for it, and no other one is. A socket and a folder tell nothing
+-- of what they heard and sent; a seat, a clock and a waker tell all.
 pub record HasRunOver {D L C : Type 0} (state : D → DiskState) (below : L → NeighbourLink C) (seats : ℕ)
     (plan : ContactPlan) (links : List KeyedWorker) (journal : JournalState D) (turns : ℕ)
     (relayed : Relayed D L (WallClock C) SenderWaker) : Type 0 where

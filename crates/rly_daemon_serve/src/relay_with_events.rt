@@ -26,6 +26,7 @@ use rly_link::{Link, Post, Turn, Waker};
 use rly_plan::Plan;
 use rly_station::{ErrorLines, PlanKeys, ServeFault, moment_of};
 use std::alloc::Global;
+use std::fs::{File, Files};
 use std::io::Write;
 use std::net::Net;
 use std::sync::{Arc, OnceLock, Wait};
@@ -50,7 +51,7 @@ pub struct Events<'e, 'w, W: Write> {
 pub fn serve_with_events<
     'a,
     'o,
-    H: AllocGlobal + Net + Threads + Wait + Clock + Sync,
+    H: AllocGlobal + Files<File = File> + Clock + Net + Threads + Wait + Sync,
     D: Disk + Drop,
     W: Write + Send,
     E: Write,
@@ -66,6 +67,8 @@ pub fn serve_with_events<
     events: Events<'_, '_, W>,
     errors: &mut E,
 ) -> Result<Served<UdpReported<'a, 'o, D, H>>, (ServeFault, D)>
+where
+    H::Dir: Send + Sync,
     requires sound { IsSoundPlan plan.now }
     requires keys { AreKeysOf plan.now keys }
     ensures room { OnOk result (FitsPlan plan.now journal.state.params) }

@@ -8,7 +8,7 @@ ghost use Rattle.rly_station.specs.Keys.{AreKeysOf};
 ghost use Rattle.rly_daemon_serve.specs.Helpers.{own_station, post_below, station_of};
 ghost use Rattle.rly_daemon_serve.specs.ReportedRelay.{HasReports};
 ghost use Rattle.rly_daemon_serve.specs.ServedRelay.{FitsPlan, HasRunOver, LacksRoom, end_fault};
-ghost use Rattle.rly_link_udp.specs.Duties.{duties, duty_over};
+ghost use Rattle.rly_posts.specs.Duties.{duties, duty_over};
 ghost use Rattle.rly_station.specs.Workers.{workers_of};
 ghost use Rattle.rly_hop.specs.Spelling.{longest_message};
 ghost use Rattle.rly_journal.specs.Journal.{JournalState};
@@ -28,10 +28,12 @@ use rly_hop::StationId;
 use rly_journal::Journal;
 use rly_link::{Link, Post, Turn, Waker, Worker};
 use rly_link_auth::MeteredLink;
-use rly_link_udp::{NeighbourLink, SenderWaker, WallClock};
+use rly_link_udp::{SenderWaker, WallClock};
 use rly_plan::Plan;
-use rly_station::{ErrorLines, PlanKeys, ServeFault};
+use rly_posts::NeighbourLink;
+use rly_station::{ErrorLines, PlanKeys, ServeFault, neighbour_of};
 use std::alloc::{AllocError, Global};
+use std::fs::{File, Files};
 use std::io::Write;
 use std::net::Net;
 use std::sync::{Arc, OnceLock, Wait};
@@ -71,7 +73,7 @@ pub struct Reports<'o> {
 pub fn serve_reporting<
     'a,
     'o,
-    H: AllocGlobal + Net + Threads + Wait + Clock + Sync,
+    H: AllocGlobal + Files<File = File> + Clock + Net + Threads + Wait + Sync,
     D: Disk + Drop,
     W: Write + Send,
     E: Write,
@@ -87,6 +89,8 @@ pub fn serve_reporting<
     writer: &mut W,
     errors: &mut E,
 ) -> Result<Served<UdpReported<'a, 'o, D, H>>, (ServeFault, D)>
+where
+    H::Dir: Send + Sync,
     requires sound { IsSoundPlan plan.now }
     requires keys { AreKeysOf plan.now keys }
     ensures room { OnOk result (FitsPlan plan.now journal.state.params) }
@@ -220,7 +224,12 @@ pub(crate) fn served_of<
 }
 
 /// The workers of a plan, whose links publish their counts to a tally, and whether the startup lines were written.
-pub(crate) fn tallied_start<'a, H: AllocGlobal + Net + Clock, D: Disk, E: Write>(
+pub(crate) fn tallied_start<
+    'a,
+    H: AllocGlobal + Files<File = File> + Clock + Net,
+    D: Disk,
+    E: Write,
+>(
     rt: &'a H,
     journal: &Journal<D>,
     plan: &Plan,
@@ -328,11 +337,7 @@ fn tallied_link<'a, H: Clock, L: MeteredLink>(
 fn station_of(plan: &Plan, worker: Worker) -> StationId
     ensures { result ≡ station_of plan.now worker }
 {
-    let neighbour = match worker {
-        Worker::Receiver(peer) => plan.peer(peer),
-        Worker::Sender(hop) => plan.hop(hop),
-    };
-    match neighbour {
+    match neighbour_of(plan, worker) {
         Some(neighbour) => StationId(neighbour.station),
         None => StationId(0),
     }

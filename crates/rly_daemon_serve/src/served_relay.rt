@@ -5,7 +5,7 @@ ghost use Rattle.rly_core.specs.declared.refusal.Refusal.TheVariants as refusal;
 ghost use Rattle.rly_hop.specs.Spelling.{longest_message};
 ghost use Rattle.rly_plan.specs.Sound.{IsSoundPlan};
 ghost use Rattle.rly_daemon_serve.specs.ServedRelay.{FitsPlan, HasRun, LacksRoom, end_fault};
-ghost use Rattle.rly_link_udp.specs.Duties.{duties, duty_at};
+ghost use Rattle.rly_posts.specs.Duties.{duties, duty_at};
 ghost use Rattle.rly_station.specs.Keys.{AreKeysOf};
 ghost use Rattle.rly_station.specs.declared.file_fault.Cause.TheVariants as cause;
 ghost use Rattle.rly_station.specs.declared.serve_fault.ServeFault.TheVariants as fault;
@@ -17,11 +17,13 @@ use rly_disk::Disk;
 use rly_hop::longest_message;
 use rly_journal::Journal;
 use rly_link::{Link, Post, Turn, Waker};
-use rly_link_udp::{NeighbourLink, SenderWaker, UdpPost, WallClock, posts_of};
+use rly_link_udp::{SenderWaker, WallClock};
 use rly_plan::Plan;
+use rly_posts::{NeighbourLink, UdpPost, posts_of};
 use rly_station::{Cause, ErrorLines, PlanKeys, ServeFault, WorkerName};
 use rly_threads::{Relayed, run_relay};
 use std::alloc::{AllocError, Global};
+use std::fs::{File, Files};
 use std::io;
 use std::io::Write;
 use std::net::Net;
@@ -56,7 +58,12 @@ pub type UdpRelayed<'a, D, H> = Relayed<D, NeighbourLink<&'a H>, WallClock<&'a H
 /// Once the journal is broken each worker ends at its next turn, and the fault is `Broken`. If the system has no
 /// thread for one of them, the others end at once, and the fault is `Worker`. An error means that nothing was started,
 /// and hands the disk back.
-pub fn serve<'a, H: AllocGlobal + Net + Threads + Wait + Clock + Sync, D: Disk + Drop, E: Write>(
+pub fn serve<
+    'a,
+    H: AllocGlobal + Files<File = File> + Clock + Net + Threads + Wait + Sync,
+    D: Disk + Drop,
+    E: Write,
+>(
     rt: &'a H,
     journal: Journal<D>,
     plan: &Plan,
@@ -66,6 +73,8 @@ pub fn serve<'a, H: AllocGlobal + Net + Threads + Wait + Clock + Sync, D: Disk +
     lines: Arc<ErrorLines, Global>,
     errors: &mut E,
 ) -> Result<Served<UdpRelayed<'a, D, H>>, (ServeFault, D)>
+where
+    H::Dir: Send + Sync,
     requires sound { IsSoundPlan plan.now }
     requires keys { AreKeysOf plan.now keys }
     ensures room { OnOk result (FitsPlan plan.now journal.state.params) }
@@ -136,7 +145,7 @@ fn run_posts<
 
 /// The workers of a plan for whose neighbours a journal has room, each with its link and its clock. A broken
 /// journal is refused.
-pub(crate) fn ready_posts<'a, H: AllocGlobal + Net + Clock, D: Disk>(
+pub(crate) fn ready_posts<'a, H: AllocGlobal + Files<File = File> + Clock + Net, D: Disk>(
     rt: &'a H,
     journal: &Journal<D>,
     plan: &Plan,
@@ -173,7 +182,7 @@ fn longest_served<D: Disk>(journal: &Journal<D>, plan: &Plan) -> Result<usize, S
 }
 
 /// Logs what is served: the station, its neighbours, the used part of the device, and the links without a key.
-pub(crate) fn report_start<'a, H: Clock, D: Disk, E: Write>(
+pub(crate) fn report_start<'a, H: AllocGlobal + Files<File = File> + Clock, D: Disk, E: Write>(
     journal: &Journal<D>,
     plan: &Plan,
     size: u64,
@@ -195,7 +204,10 @@ pub(crate) fn report_start<'a, H: Clock, D: Disk, E: Write>(
 }
 
 /// Logs which links have no key, if any.
-fn report_open<'a, H: Clock, E: Write>(posts: &[UdpPost<'a, H>], errors: &mut E) -> io::Result<()> {
+fn report_open<'a, H: AllocGlobal + Files<File = File> + Clock, E: Write>(
+    posts: &[UdpPost<'a, H>],
+    errors: &mut E,
+) -> io::Result<()> {
     let mut before = "rly: links without a key:";
     let mut is_any = false;
     for post in posts {

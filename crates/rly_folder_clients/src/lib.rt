@@ -1,5 +1,5 @@
 //! What the programs beside a station do with its folder: `put` puts a file in, and `get` prints
-//! the files handed out and removes them. No command uses them yet.
+//! the files handed out and removes them. `rly put` and `rly get` are over them.
 //!
 //! A file is written under a hidden name, linked under the first free number from the clock's on,
 //! and synced (`specs/Putting.antt`). A file is read, printed and flushed, its number is kept

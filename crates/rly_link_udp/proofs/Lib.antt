@@ -1,4 +1,3 @@
 pub mod BellSteps
-pub mod CountedPosts
 pub mod Turns
 pub mod Sending

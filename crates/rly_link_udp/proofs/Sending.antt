@@ -1,4 +1,4 @@
--- The link to a neighbour is Send if its clock is.
+-- A link over UDP, and one to a neighbour at a socket, are Send if their clock is.
 use denote.RattleType.{RattleType}
 use denote.Param.Send.{AllSend, EachSend, IsSend, enum_send, recorded_send, sendable, struct_send, view_send}
 use denote.Struct.Declared.{Declared, shape}
@@ -23,7 +23,7 @@ use Rattle.rly_link_auth.specs.contracts.sealed.Sealed.TheInside as Inside
 use Rattle.rly_link_auth.specs.contracts.station_link.StationLink as Station
 use Rattle.rly_link_auth.specs.contracts.station_link.StationLinkLink.TheImpl as StationImpl
 use Rattle.rly_station.specs.contracts.failed_calls.FailedCalls as FailedCalls
-use Rattle.rly_link_udp.specs.contracts.neighbour_link.NeighbourLink as NeighbourLink
+use Rattle.rly_link_udp.specs.contracts.socket_link.SocketLink as SocketLink
 use Rattle.rly_link_udp.specs.contracts.udp_link.UdpLink as UdpLink
 use Rattle.rly_link_udp.specs.contracts.udp_link.UdpLinkLink.TheImpl as Impl
 use Rattle.rly_link_udp.specs.contracts.unsent.Unsent as Unsent
@@ -38,7 +38,7 @@ tags_send = search (sendable, crosses, the_send) depth 30
 unsent_send : IsSend Unsent.the_field.row
 unsent_send = search (sendable, crosses, the_send) depth 30
 
-udp_send : (C : RattleType) → IsSend C → IsSend (UdpLink.the_row C)
+pub udp_send : (C : RattleType) → IsSend C → IsSend (UdpLink.the_row C)
 udp_send C c =
     let udp : Declared = UdpLink.the_type C in
     let fields : AllSend (rows udp.parts) =
@@ -90,12 +90,12 @@ ahead_send L g l =
     ) in
     view_send (AheadInside.the_row L g) _ _ _ _ (recorded_send (Struct (shape inside)) inside.D inside.to inside.to_one (struct_send (shape inside) fields))
 
-pub neighbour_send : (C : RattleType) (g : Clock.Ghosts C.Denot) → IsSend C → IsSend (NeighbourLink.the_row C g)
-neighbour_send C g c =
-    let link : Declared = NeighbourLink.the_type C g in
+pub socket_send : (C : RattleType) (g : Clock.Ghosts C.Denot) → IsSend C → IsSend (SocketLink.the_field C g).row
+socket_send C g c =
+    let link : Declared = SocketLink.the_type C g in
     let socket = UdpLink.the_row C in
     let told = Impl.ghosts C g Impl.no_dict Impl.no_dict in
     let station = station_send socket told (udp_send C c) in
     let ahead = ahead_send (Station.the_row socket told) (StationImpl.ghosts socket told StationImpl.no_dict) station in
     let fields : AllSend (rows link.parts) = (ahead, (tags_send, (search sendable depth 20, tt))) in
-    recorded_send (Struct (shape link)) link.D link.to link.to_one (struct_send (shape link) fields)
+    struct_send (shape link) fields

@@ -2,7 +2,7 @@ pub mod Bells
 pub mod ClockWatch
 pub mod WallClock
 pub mod WrongTags
-pub mod Neighbour
+pub mod SocketLink
 pub mod LinkReorder
-pub mod Duties
+pub mod LinkDuties
 pub mod Unsent

@@ -4,6 +4,7 @@ ghost use Rattle.std.specs.Prelude.{◌≡◌, IfOk, []};
 ghost use Rattle.rly_station.specs.Warnings.{logged_warnings};
 
 use crate::bells::Bells;
+use crate::sender_waker::SenderWaker;
 use rly_plan::Plan;
 use rly_station::{ErrorLines, Logger, ServeFault};
 use std::alloc::{AllocError, Global};
@@ -11,14 +12,14 @@ use std::sync::Arc;
 
 /// The bells of a station's workers, and its log. Each worker shares both, and the device shares the log.
 #[derive(Drop)]
-pub(crate) struct Signals {
+pub struct Signals {
     bells: Arc<Bells, Global>,
     lines: Arc<ErrorLines, Global>,
 }
 
 impl Signals {
     /// Those of a plan's station. `Err` if the system or memory refuses them.
-    pub(crate) fn open(
+    pub fn open(
         alloc: Global,
         plan: &Plan,
         lines: Arc<ErrorLines, Global>,
@@ -35,8 +36,13 @@ impl Signals {
         self.bells.clone()
     }
 
+    /// A waker with all bells.
+    pub fn waker(&self) -> Result<SenderWaker, AllocError> {
+        Ok(SenderWaker::new(self.bells()?))
+    }
+
     /// The logger of a worker.
-    pub(crate) fn logger(&self) -> Result<Logger, AllocError>
+    pub fn logger(&self) -> Result<Logger, AllocError>
         ensures { IfOk result (λ teller. logged_warnings teller ≡ []) }
     {
         let lines = self.lines.clone()?;

@@ -1,4 +1,5 @@
-ghost use Rattle.std.specs.Prelude.{◌≡◌, ◌≤◌, ◌-◌, ◌^◌, ◌↔◌, IfOk, IfSome, IsErr, IsTrue, Some, length};
+ghost use Rattle.std.specs.Prelude.{◌≡◌, ◌≤◌, ◌-◌, ◌^◌, ◌↔◌, IfOk, IfSome, IsErr, IsTrue, None, Some, length};
+ghost use Rattle.rly_link_udp.specs.LinkDuties.{link_addresses};
 ghost use Rattle.rly_link.specs.LinkHistory.{FailuresRose};
 
 use crate::bells::{Bell, Bells};
@@ -37,6 +38,9 @@ const LONGEST: u64 = 1_000;
 
 const SHORTEST: u64 = 50;
 
+/// An address of this machine alone, at a port that the system picks.
+const OWN_MACHINE: &str = "127.0.0.1:0";
+
 /// A link over UDP. It receives from any address, and sends to one. An empty packet is dropped: it is no message. A wait
 /// ends as its worker's bell is rung.
 ///
@@ -60,19 +64,42 @@ pub struct UdpLink<C: Clock + Drop> {
     longest: Option<u64>,
     /// The packet that it sends again while it waits, if it does so.
     unsent: Option<Unsent>,
-    addresses: Snapshot<Addresses>,
+    /// The addresses at which it was opened: none of a bell.
+    addresses: Option<Snapshot<Addresses>>,
 }
 
 impl<C: Clock + Drop> UdpLink<C> {
     /// A link that receives on `listen` and sends to the first address that `remote` names. A name is resolved
     /// once, here. `Err` if the system refuses either text, or `listen` has port 0.
     pub fn open<N: Net>(net: &N, clock: C, addresses: &Addresses) -> Result<UdpLink<C>, EndFault>
-        ensures addresses { IfOk result (λ link. link.addresses.value ≡ addresses.now) }
+        ensures addresses { IfOk result (λ link. link_addresses link ≡ Some addresses.now) }
         ensures failures { IfOk result (λ link. link.failures ≡ 0) }
     {
         let socket = refused_at(End::Listen, receiving_socket(net, addresses.listen()))?;
         let remote = refused_at(End::Remote, first_address(net, addresses.remote()))?;
-        Ok(UdpLink {
+        let mut link = UdpLink::over(socket, remote, clock);
+        link.addresses = Some(Snapshot::of(addresses));
+        Ok(link)
+    }
+
+    /// A link that ends its waits by an empty packet to an address of this machine that the system picks. It has no
+    /// neighbour: what is sent comes back to itself.
+    pub(crate) fn open_bell<N: Net>(net: &N, clock: C) -> io::Result<UdpLink<C>>
+        ensures addresses { IfOk result (λ link. link_addresses link ≡ None) }
+        ensures failures { IfOk result (λ link. link.failures ≡ 0) }
+    {
+        let socket = UdpSocket::bind(net, OWN_MACHINE)?;
+        socket.set_nonblocking(true)?;
+        let remote = socket.local_addr()?;
+        Ok(UdpLink::over(socket, remote, clock))
+    }
+
+    /// A link over a socket.
+    fn over(socket: UdpSocket, remote: SocketAddr, clock: C) -> UdpLink<C>
+        ensures addresses { link_addresses result ≡ None }
+        ensures failures { result.failures ≡ 0 }
+    {
+        UdpLink {
             socket,
             remote,
             clock,
@@ -83,8 +110,13 @@ impl<C: Clock + Drop> UdpLink<C> {
             bells: None,
             longest: None,
             unsent: None,
-            addresses: Snapshot::of(addresses),
-        })
+            addresses: None,
+        }
+    }
+
+    /// The address on which it receives.
+    pub fn address(&self) -> io::Result<SocketAddr> {
+        self.socket.local_addr()
     }
 
     /// The same, whose waits end by the bell of a worker.

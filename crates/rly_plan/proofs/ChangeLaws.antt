@@ -11,7 +11,7 @@ use Rattle.rly_plan.specs.HelpersContacts.{AreSummed, contacts_in}
 use Rattle.rly_plan.specs.LinkClock.{lies_in, lies_in_any}
 use Rattle.rly_core.specs.declared.ids.HopId.{HopId}
 use Rattle.rly_plan.specs.ContactPlan.{ContactPlan, at_number, is_open, next_change}
-use Rattle.rly_plan.specs.Sound.{AreInOrder, IsSoundPlan, IsStationNumber}
+use Rattle.rly_plan.specs.Sound.{AreInOrder, IsSoundNeighbour, IsSoundPlan}
 use Rattle.rly_plan.specs.declared.plan.NextHop.{NextHop}
 
 -- contacts that last, each of which begins when those before it have ended, and none before the front
@@ -141,7 +141,7 @@ at_either : (plan : ContactPlan) (o : Option NextHop) (m : ℕ) → IfSome o (λ
 at_either plan None m kept = λ u from. refl
 at_either plan (Some h) m kept = change_is 0 h.contacts m (follow_of 0 h.contacts kept.lasting kept.apart (λ i d within. omega arith))
 
-nth_is : (hops : List NextHop) (n : ℕ) → All (λ h. IsStationNumber h.neighbour.station × AreInOrder h.contacts) hops → IfSome (at_number hops n) (λ h. AreInOrder h.contacts)
+nth_is : (hops : List NextHop) (n : ℕ) → All (λ h. IsSoundNeighbour h.neighbour × AreInOrder h.contacts) hops → IfSome (at_number hops n) (λ h. AreInOrder h.contacts)
 nth_is hops zero sound = tt
 nth_is [] (suc n) sound = tt
 nth_is (h ∷ hops) (suc zero) sound = (sound 0 h (omega arith)).1

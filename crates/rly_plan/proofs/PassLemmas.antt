@@ -17,7 +17,8 @@ use Rattle.rly_plan.specs.HelpersContacts.{last_end}
 use Rattle.rly_plan_syntax.specs.Draft.{HopText, PlanText}
 use Rattle.rly_plan_syntax.specs.DocumentPaths.{unless}
 use Rattle.rly_plan.specs.KeyPaths.{first_adjacent, first_repeat, first_row}
-use Rattle.rly_plan.specs.Passes.{all_numbered, hop_in_range, is_in_range, is_station, lead_in_range, neighbour_in_range, plan_of_draft, rate_in_range, resend_in_range, route_in_range, rows_in_range, is_between, number, contact_in_range, all_adjacent, are_apart, repeats, contact_from}
+use Rattle.rly_plan.specs.Passes.{all_numbered, hop_in_range, is_in_range, lead_in_range, neighbour_in_range, plan_of_draft, rate_in_range, resend_in_range, route_in_range, rows_in_range, contact_in_range, all_adjacent, are_apart, repeats, contact_from}
+use Rattle.rly_plan.specs.Numbers.{is_station, is_between, number}
 
 abbrev pub none_of : (A : Type 0) → List A
 none_of A = []

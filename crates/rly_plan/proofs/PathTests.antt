@@ -5,6 +5,9 @@ use Rattle.rly_core.specs.declared.limits.TheConstants.{MAX_CONTACTS, MAX_HOPS, 
 use Rattle.rly_plan_syntax.specs.declared.draft.ContactDraft.{ContactDraft}
 use Rattle.rly_plan_syntax.specs.declared.draft.NeighbourDraft.{NeighbourDraft}
 use Rattle.rly_plan_syntax.specs.declared.draft.RouteDraft.{RouteDraft}
+use Rattle.rly_plan_syntax.specs.declared.far_end.FarEndDraft.{FarEndDraft}
+use Rattle.rly_plan_syntax.specs.declared.far_end.FarEndDraft.TheVariants as draft
+use Rattle.rly_plan_syntax.specs.declared.far_end.FolderDraft.{FolderDraft}
 use Rattle.rly_plan_syntax.specs.declared.key_path.KeyPath.TheVariants as place
 use Rattle.rly_plan_syntax.specs.declared.key_path.Row.{Row}
 use Rattle.rly_plan_syntax.specs.declared.key_path.Row.TheVariants as row
@@ -14,8 +17,9 @@ use Rattle.rly_plan_syntax.specs.declared.key_path.PlanKey.TheVariants as key
 use Rattle.rly_plan_syntax.specs.DocumentPaths.{unless}
 use Rattle.rly_plan_syntax.specs.Draft.{HopText, PlanText}
 use Rattle.rly_plan_syntax.proofs.NoPath.{none_map, none_or, none_unless}
-use Rattle.rly_plan.specs.Passes.{all_adjacent, all_numbered, are_apart, begin_in_order, contact_in_range, hop_in_range, is_between, is_in_range, is_sorted, is_station, lead_in_range, leads_to_hops, neighbour_in_range, rate_in_range, resend_in_range, route_in_range, rows_in_range}
-use Rattle.rly_plan.specs.KeyPaths.{apart_fault, first_adjacent, first_contact, first_row, hop_range_fault, lead_fault, lead_place, neighbour_range_fault, order_fault, range_place, route_range_fault, rows_range_fault, sorted_place}
+use Rattle.rly_plan.specs.Passes.{all_adjacent, all_numbered, are_apart, begin_in_order, contact_in_range, far_in_range, folder_in_range, hop_in_range, is_in_range, is_sorted, lead_in_range, leads_to_hops, neighbour_in_range, rate_in_range, resend_in_range, route_in_range, rows_in_range}
+use Rattle.rly_plan.specs.Numbers.{is_between, is_given_between, is_station}
+use Rattle.rly_plan.specs.KeyPaths.{apart_fault, far_range_fault, first_adjacent, first_contact, first_row, folder_range_fault, hop_range_fault, lead_fault, lead_place, neighbour_range_fault, order_fault, range_place, route_range_fault, rows_range_fault, sorted_place}
 
 none_row : {A : Type 0} (fault : ℕ → A → Option Spot) (test : ℕ → A → Bool) → ((n : ℕ) (x : A) → is_none (fault n x) ≡ test n x)
     → (row : Row) (n : ℕ) (xs : List A) → is_none (first_row fault row n xs) ≡ all_numbered test n xs
@@ -33,10 +37,20 @@ none_row_all fault test same row n (x ∷ xs) =
 
 -- ---- the ranges
 
+none_folder : (f : FolderDraft) → is_none (folder_range_fault f) ≡ folder_in_range f
+none_folder f =
+    none_or _ _ _ _ (none_unless (is_given_between 1 65535 f.destination) (spot.At key.Destination))
+    (none_or _ _ _ _ (none_unless (is_given_between 1 1099511627 f.limit) (spot.At key.Limit))
+    (none_unless (is_between 1 1000000 f.most) (spot.At key.Most)))
+
+none_far : (far : FarEndDraft) → is_none (far_range_fault far) ≡ far_in_range far
+none_far (draft.Socket socket) = refl
+none_far (draft.Folder folder) = none_folder folder
+
 none_neighbour : (id : ℕ) (n : NeighbourDraft) → is_none (neighbour_range_fault id n) ≡ neighbour_in_range id n
 none_neighbour id n =
-    none_or (unless (is_between id id n.id) (spot.At key.Id)) (unless (is_station n.station) (spot.At key.Station)) (is_between id id n.id) (is_station n.station)
-    (none_unless (is_between id id n.id) (spot.At key.Id)) (none_unless (is_station n.station) (spot.At key.Station))
+    none_or _ _ _ _ (none_unless (is_between id id n.id) (spot.At key.Id))
+    (none_or _ _ _ _ (none_unless (is_station n.station) (spot.At key.Station)) (none_far n.far))
 
 none_contact : (test : ContactDraft → Bool) (n : ℕ) (cs : List ContactDraft) → is_none (first_contact test n cs) ≡ list_all test cs
 none_contact test n [] = refl

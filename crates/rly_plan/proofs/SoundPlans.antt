@@ -12,11 +12,16 @@ use Rattle.rly_plan.specs.declared.contacts.Contact.{Contact}
 use Rattle.rly_plan_syntax.specs.declared.draft.ContactDraft.{ContactDraft}
 use Rattle.rly_plan_syntax.specs.declared.draft.NeighbourDraft.{NeighbourDraft}
 use Rattle.rly_plan_syntax.specs.declared.draft.RouteDraft.{RouteDraft}
+use Rattle.rly_plan_syntax.specs.declared.far_end.FarEndDraft.{FarEndDraft}
+use Rattle.rly_plan_syntax.specs.declared.far_end.FarEndDraft.TheVariants as draft
+use Rattle.rly_plan_syntax.specs.declared.far_end.FolderDraft.{FolderDraft}
 use Rattle.rly_plan.specs.ContactPlan.{ContactPlan}
 use Rattle.rly_plan_syntax.specs.Draft.{HopText, PlanText, draft_of}
 use Rattle.rly_plan_syntax.specs.Keys.{keys_are_known}
-use Rattle.rly_plan.specs.Passes.{all_adjacent, all_numbered, are_apart, contact_from, contact_in_range, hop_from, hop_in_range, is_between, is_in_range, is_sorted, is_station, leads_to_hops, neighbour_from, neighbour_in_range, number, number_16, number_32, overlaps, plan_from, plan_of_text, plan_of_document, plan_of_draft, rate_in_range, repeats, resend_in_range, route_from, route_in_range, rows_in_range}
-use Rattle.rly_plan.specs.Sound.{IsStationNumber, AreInOrder, IsSoundPlan}
+use Rattle.rly_plan.specs.Passes.{all_adjacent, all_numbered, are_apart, contact_from, contact_in_range, far_in_range, folder_in_range, hop_from, hop_in_range, is_in_range, is_sorted, leads_to_hops, neighbour_from, neighbour_in_range, overlaps, plan_from, plan_of_text, plan_of_document, plan_of_draft, repeats, route_from, route_in_range, rows_in_range}
+use Rattle.rly_plan.specs.Numbers.{is_between, is_given_between, is_station, number, number_16, number_32}
+use Rattle.rly_plan.specs.FarEnds.{far_end_from, folder_at, folder_from}
+use Rattle.rly_plan.specs.Sound.{IsStationNumber, IsSoundFolder, IsSoundNeighbour, AreInOrder, IsSoundPlan}
 use Rattle.rly_plan.proofs.PassLemmas.{between_bounds, contact_bounds, hop_parts}
 
 -- ---- a draft that passed
@@ -94,25 +99,46 @@ held limit low high (negsuc n) fits h = absurd (false≢true h)
 sixteen : (low high : ℕ) (z : ℤ) → high ≤ 65535 → is_between low high z ≡ true → IsIn low high (number_16 z)
 sixteen low high z fits h = rw (held 65535 low high z fits h) (between_bounds low high z h)
 
-resend_sound : (n : ℕ) (h : HopText) → hop_in_range n h ≡ true → IsIn MIN_RESEND MAX_RESEND (number_32 h.resend)
-resend_sound n h ranged =
-    let within = (hop_parts n h ranged).resend in
-    rw (held 4294967295 MIN_RESEND MAX_RESEND h.resend (omega arith) within) (between_bounds MIN_RESEND MAX_RESEND h.resend within)
+thirty_two : (low high : ℕ) (z : ℤ) → high ≤ 4294967295 → is_between low high z ≡ true → IsIn low high (number_32 z)
+thirty_two low high z fits h = rw (held 4294967295 low high z fits h) (between_bounds low high z h)
 
-rate_bounds : (rate : Option ℤ) → rate_in_range rate ≡ true → IfSome (option_map number_32 rate) (IsIn 1 1000000000)
-rate_bounds None ranged = tt
-rate_bounds (Some z) ranged = rw (held 4294967295 1 1000000000 z (omega arith) ranged) (between_bounds 1 1000000000 z ranged)
+resend_sound : (n : ℕ) (h : HopText) → hop_in_range n h ≡ true → IsIn MIN_RESEND MAX_RESEND (number_32 h.resend)
+resend_sound n h ranged = thirty_two MIN_RESEND MAX_RESEND h.resend (omega arith) (hop_parts n h ranged).resend
+
+-- a number that may be left out
+given_16 : (low high : ℕ) (given : Option ℤ) → high ≤ 65535 → is_given_between low high given ≡ true → IfSome (option_map number_16 given) (IsIn low high)
+given_16 low high None fits h = tt
+given_16 low high (Some z) fits h = sixteen low high z fits h
+
+given_32 : (low high : ℕ) (given : Option ℤ) → high ≤ 4294967295 → is_given_between low high given ≡ true → IfSome (option_map number_32 given) (IsIn low high)
+given_32 low high None fits h = tt
+given_32 low high (Some z) fits h = thirty_two low high z fits h
 
 rate_sound : (n : ℕ) (h : HopText) → hop_in_range n h ≡ true → IfSome (option_map number_32 h.rate) (IsIn 1 1000000000)
-rate_sound n h ranged = rate_bounds h.rate (hop_parts n h ranged).rate
+rate_sound n h ranged = given_32 1 1000000000 h.rate (omega arith) (hop_parts n h ranged).rate
 
 lead_sound : (n : ℕ) (h : HopText) → hop_in_range n h ≡ true → number_32 h.lead ≤ 86400
-lead_sound n h ranged =
-    let within = (hop_parts n h ranged).lead in
-    rw (held 4294967295 0 86400 h.lead (omega arith) within) (between_bounds 0 86400 h.lead within).1
+lead_sound n h ranged = (thirty_two 0 86400 h.lead (omega arith) (hop_parts n h ranged).lead).1
 
-neighbour_sound : (n : ℕ) (p : NeighbourDraft) → neighbour_in_range n p ≡ true → IsStationNumber (number_16 p.station)
-neighbour_sound n p h = sixteen 1 65535 p.station (omega arith) (and_parts (is_between n n p.id) (is_station p.station) h).1
+folder_sound : (f : FolderDraft) → folder_in_range f ≡ true → IsSoundFolder (folder_from f)
+folder_sound f h =
+    let (destination, more) = and_parts (is_given_between 1 65535 f.destination) (is_given_between 1 1099511627 f.limit && is_between 1 1000000 f.most) h in
+    let (limit, most) = and_parts (is_given_between 1 1099511627 f.limit) (is_between 1 1000000 f.most) more in
+    record {
+      destination = given_16 1 65535 f.destination (omega arith) destination;
+      limit = given_32 1 1099511627 f.limit (omega arith) limit;
+      most = thirty_two 1 1000000 f.most (omega arith) most;
+    }
+
+far_sound : (far : FarEndDraft) → far_in_range far ≡ true → IfSome (folder_at (far_end_from far)) IsSoundFolder
+far_sound (draft.Socket socket) h = tt
+far_sound (draft.Folder folder) h = folder_sound folder h
+
+neighbour_sound : (n : ℕ) (p : NeighbourDraft) → neighbour_in_range n p ≡ true → IsSoundNeighbour (neighbour_from p)
+neighbour_sound n p h =
+    let more = (and_parts (is_between n n p.id) (is_station p.station && far_in_range p.far) h).1 in
+    let (station, far) = and_parts (is_station p.station) (far_in_range p.far) more in
+    record { station = sixteen 1 65535 p.station (omega arith) station; folder = far_sound p.far far }
 
 route_sound : (hops : ℕ) (r : RouteDraft) → hops ≤ 65535 → route_in_range r ≡ true → is_between 1 hops r.hop ≡ true → IsStationNumber (number_16 r.destination) × IsIn 1 hops (number_16 r.hop)
 route_sound hops r fits h leads = (sixteen 1 65535 r.destination (omega arith) (and_parts (is_station r.destination) (is_between 1 MAX_HOPS r.hop) h).0, sixteen 1 hops r.hop fits leads)
@@ -147,7 +173,7 @@ pairs_apart (x ∷ ds) ranged apart zero (suc j) d order within = first_apart x 
 pairs_apart (x ∷ ds) ranged apart (suc i) (suc j) d order within =
     pairs_apart ds (and_parts (contact_in_range x) (list_all contact_in_range ds) ranged).1 (apart_behind x ds apart) i j d (omega arith) (omega arith)
 
-hop_sound : (n : ℕ) (h : HopText) → hop_in_range n h ≡ true → all_adjacent are_apart h.contacts ≡ true → IsStationNumber (number_16 h.neighbour.station) × AreInOrder (map contact_from h.contacts)
+hop_sound : (n : ℕ) (h : HopText) → hop_in_range n h ≡ true → all_adjacent are_apart h.contacts ≡ true → IsSoundNeighbour (neighbour_from h.neighbour) × AreInOrder (map contact_from h.contacts)
 hop_sound n h ranged apart =
     let parts = hop_parts n h ranged in (
       neighbour_sound n h.neighbour parts.neighbour,
@@ -159,7 +185,7 @@ hop_sound n h ranged apart =
     )
 
 hops_sound : (n : ℕ) (hs : List HopText) → all_numbered hop_in_range n hs ≡ true → list_all (λ h. all_adjacent are_apart h.contacts) hs ≡ true
-    → All (λ h. IsStationNumber h.neighbour.station × AreInOrder h.contacts) (map hop_from hs)
+    → All (λ h. IsSoundNeighbour h.neighbour × AreInOrder h.contacts) (map hop_from hs)
 hops_sound n [] ranged apart k d within = absurd (omega arith)
 hops_sound n (h ∷ hs) ranged apart zero d within =
     hop_sound n h (and_parts (hop_in_range n h) (all_numbered hop_in_range (n + 1) hs) ranged).0 (and_parts (all_adjacent are_apart h.contacts) (list_all (λ h. all_adjacent are_apart h.contacts) hs) apart).0
@@ -189,7 +215,7 @@ draft_sound d ranged apart leads =
       station = sixteen 1 65535 d.station (omega arith) station;
       peer_count = peers.0;
       hop_count = hops.0;
-      peers = numbered_map neighbour_in_range neighbour_from (λ p. IsStationNumber p.station) neighbour_sound 1 d.peers peers.1;
+      peers = numbered_map neighbour_in_range neighbour_from IsSoundNeighbour neighbour_sound 1 d.peers peers.1;
       hops = hops_sound 1 d.hops hops.1 (not-false (list_all (λ h. all_adjacent are_apart h.contacts) d.hops) contacts);
       resends = numbered_map hop_in_range hop_from (λ h. IsIn MIN_RESEND MAX_RESEND h.resend) resend_sound 1 d.hops hops.1;
       rates = numbered_map hop_in_range hop_from (λ h. IfSome h.rate (IsIn 1 1000000000)) rate_sound 1 d.hops hops.1;

@@ -10,6 +10,9 @@ use Rattle.rly_core.specs.declared.limits.TheConstants.{MAX_CONTACTS, MAX_HOPS, 
 use Rattle.rly_plan_syntax.specs.declared.draft.ContactDraft.{ContactDraft}
 use Rattle.rly_plan_syntax.specs.declared.draft.NeighbourDraft.{NeighbourDraft}
 use Rattle.rly_plan_syntax.specs.declared.draft.RouteDraft.{RouteDraft}
+use Rattle.rly_plan_syntax.specs.declared.far_end.FarEndDraft.{FarEndDraft}
+use Rattle.rly_plan_syntax.specs.declared.far_end.FarEndDraft.TheVariants as draft
+use Rattle.rly_plan_syntax.specs.declared.far_end.FolderDraft.{FolderDraft}
 use Rattle.rly_plan_syntax.specs.declared.key_path.PlanKey.{PlanKey}
 use Rattle.rly_plan_syntax.specs.declared.key_path.PlanKey.TheVariants as key
 use Rattle.rly_plan_syntax.specs.declared.key_path.KeyPath.{KeyPath}
@@ -21,8 +24,9 @@ use Rattle.rly_plan_syntax.specs.declared.key_path.Spot.TheVariants as spot
 use Rattle.rly_plan_syntax.specs.DocumentPaths.{missing_place, position_after, unknown_place, unless}
 use Rattle.rly_plan_syntax.specs.Draft.{HopText, PlanText, draft_of}
 use Rattle.rly_plan_syntax.specs.Keys.{keys_are_known}
-use Rattle.rly_plan.specs.Passes.{are_apart, begin_in_order, contact_in_range, is_between, is_in_range, is_sorted}
-use Rattle.rly_plan.specs.Passes.{is_station, lead_in_range, number_16, overlaps, rate_in_range, resend_in_range}
+use Rattle.rly_plan.specs.Numbers.{is_between, is_given_between, is_station, number_16}
+use Rattle.rly_plan.specs.Passes.{are_apart, begin_in_order, contact_in_range, is_in_range, is_sorted}
+use Rattle.rly_plan.specs.Passes.{lead_in_range, overlaps, rate_in_range, resend_in_range}
 
 -- the first row that has a fault, and where in it: rows count from n
 abbrev pub first_row : {A : Type 0} → (ℕ → A → Option Spot) → Row → ℕ → List A → Option KeyPath
@@ -31,9 +35,20 @@ first_row fault row n (x ∷ xs) = option_or (option_map (place.In row n) (fault
 
 -- ---- pass 4: a number out of its range
 
+abbrev pub folder_range_fault : FolderDraft → Option Spot
+folder_range_fault f =
+    option_or (unless (is_given_between 1 65535 f.destination) (spot.At key.Destination))
+    (option_or (unless (is_given_between 1 1099511627 f.limit) (spot.At key.Limit))
+    (unless (is_between 1 1000000 f.most) (spot.At key.Most)))
+
+abbrev pub far_range_fault : FarEndDraft → Option Spot
+far_range_fault (draft.Socket socket) = None
+far_range_fault (draft.Folder folder) = folder_range_fault folder
+
 abbrev pub neighbour_range_fault : ℕ → NeighbourDraft → Option Spot
 neighbour_range_fault id n =
-    option_or (unless (is_between id id n.id) (spot.At key.Id)) (unless (is_station n.station) (spot.At key.Station))
+    option_or (unless (is_between id id n.id) (spot.At key.Id))
+    (option_or (unless (is_station n.station) (spot.At key.Station)) (far_range_fault n.far))
 
 -- the first contact that fails the test: contacts count from n
 abbrev pub first_contact : (ContactDraft → Bool) → ℕ → List ContactDraft → Option Spot

@@ -2,6 +2,8 @@ pub mod LinkClock
 pub mod Changes
 pub mod HelpersContacts
 pub mod ContactPlan
+pub mod Numbers
+pub mod FarEnds
 pub mod Passes
 pub mod Sound
 pub mod KeyPaths

@@ -1,5 +1,5 @@
 -- The passes over a whole plan, in their order: the plan of a text, or the first fault (docs/FORMATS.md, "The plan").
-use Rattle.std.specs.Prelude.{ℕ, ◌+◌, ◌-◌, ◌==◌, nat_le, ℤ, pos, negsuc, List, [], ◌∷◌, map, length}
+use Rattle.std.specs.Prelude.{ℕ, ◌+◌, ◌-◌, ◌==◌, nat_le, ℤ, List, [], ◌∷◌, map, length}
 use Rattle.std.specs.Prelude.{Bool, true, false, not, ◌&&◌, ◌||◌, if◌then◌else◌}
 use Rattle.std.specs.Prelude.{Option, Some, None, option_map, Result, Ok, Err}
 use Rattle.std.specs.List.{list_all, list_any}
@@ -13,41 +13,31 @@ use Rattle.rly_plan.specs.declared.contacts.Contact.{Contact}
 use Rattle.rly_plan_syntax.specs.declared.draft.ContactDraft.{ContactDraft}
 use Rattle.rly_plan_syntax.specs.declared.draft.NeighbourDraft.{NeighbourDraft}
 use Rattle.rly_plan_syntax.specs.declared.draft.RouteDraft.{RouteDraft}
+use Rattle.rly_plan_syntax.specs.declared.far_end.FarEndDraft.{FarEndDraft}
+use Rattle.rly_plan_syntax.specs.declared.far_end.FarEndDraft.TheVariants as draft
+use Rattle.rly_plan_syntax.specs.declared.far_end.FolderDraft.{FolderDraft}
 use Rattle.rly_plan.specs.declared.neighbour.Neighbour.{Neighbour}
 use Rattle.rly_plan.specs.declared.plan.NextHop.{NextHop}
 use Rattle.rly_plan.specs.declared.plan.Route.{Route}
 use Rattle.rly_plan.specs.ContactPlan.{ContactPlan}
+use Rattle.rly_plan.specs.FarEnds.{far_end_from}
+use Rattle.rly_plan.specs.Numbers.{is_between, is_given_between, is_station, number, number_16, number_32}
 use Rattle.rly_plan_syntax.specs.Draft.{HopText, PlanText, draft_of}
 use Rattle.rly_plan_syntax.specs.Keys.{keys_are_known}
 
--- ---- numbers
-
--- the whole number lies from least to most
-abbrev pub is_between : ℕ → ℕ → ℤ → Bool
-is_between least most (pos n) = nat_le least n && nat_le n most
-is_between least most (negsuc n) = false
-
--- the whole number, if it is not below 0
-abbrev pub number : ℤ → ℕ
-number (pos n) = n
-number (negsuc n) = 0
-
--- the whole number, if it fits 16 bits
-abbrev pub number_16 : ℤ → ℕ
-number_16 z = if is_between 0 65535 z then number z else 0
-
--- the whole number, if it fits 32 bits
-abbrev pub number_32 : ℤ → ℕ
-number_32 z = if is_between 0 4294967295 z then number z else 0
-
 -- ---- 53: a number out of its range
 
--- a station or a destination
-abbrev pub is_station : ℤ → Bool
-is_station z = is_between 1 65535 z
+-- a destination if it is given, milliseconds below 2^40 microseconds if they are given, and a number of files
+abbrev pub folder_in_range : FolderDraft → Bool
+folder_in_range f =
+    is_given_between 1 65535 f.destination && (is_given_between 1 1099511627 f.limit && is_between 1 1000000 f.most)
+
+abbrev pub far_in_range : FarEndDraft → Bool
+far_in_range (draft.Socket socket) = true
+far_in_range (draft.Folder folder) = folder_in_range folder
 
 abbrev pub neighbour_in_range : ℕ → NeighbourDraft → Bool
-neighbour_in_range id n = is_between id id n.id && is_station n.station
+neighbour_in_range id n = is_between id id n.id && (is_station n.station && far_in_range n.far)
 
 -- a contact begins at 0 or later, and ends after that and below 2^52
 abbrev pub contact_in_range : ContactDraft → Bool
@@ -59,8 +49,7 @@ resend_in_range z = is_between MIN_RESEND MAX_RESEND z
 
 -- bytes a second, if there is a rate
 abbrev pub rate_in_range : Option ℤ → Bool
-rate_in_range None = true
-rate_in_range (Some z) = is_between 1 1000000000 z
+rate_in_range rate = is_given_between 1 1000000000 rate
 
 -- seconds
 abbrev pub lead_in_range : ℤ → Bool
@@ -131,7 +120,7 @@ leads_to_hops d = list_all (λ r. is_between 1 (length d.hops) r.hop) d.routes
 -- ---- the plan
 
 abbrev pub neighbour_from : NeighbourDraft → Neighbour
-neighbour_from n = record { station = number_16 n.station; addresses = n.addresses; key = n.key }
+neighbour_from n = record { station = number_16 n.station; far = far_end_from n.far }
 
 abbrev pub contact_from : ContactDraft → Contact
 contact_from c = record { begin = number c.begin; end = number c.end }

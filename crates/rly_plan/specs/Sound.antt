@@ -5,11 +5,25 @@ use Rattle.rly_core.specs.Bounds.{IsIn}
 use Rattle.rly_core.specs.declared.limits.TheConstants.{MAX_CONTACTS, MAX_HOPS, MAX_PEERS, MAX_RESEND, MIN_RESEND}
 use Rattle.rly_core.specs.declared.limits.TheConstants.{MOMENT_LIMIT}
 use Rattle.rly_plan.specs.declared.contacts.Contact.{Contact}
+use Rattle.rly_plan.specs.declared.far_end.FolderEnd.{FolderEnd}
+use Rattle.rly_plan.specs.declared.neighbour.Neighbour.{Neighbour}
 use Rattle.rly_plan.specs.ContactPlan.{ContactPlan}
+use Rattle.rly_plan.specs.FarEnds.{folder_at}
 
 -- the number of a station or a destination
 abbrev pub IsStationNumber : ℕ → Type 0
 IsStationNumber n = IsIn 1 65535 n
+
+-- the numbers of a folder
+pub record IsSoundFolder (folder : FolderEnd) : Type 0 where
+  pub destination : IfSome folder.destination IsStationNumber
+  pub limit : IfSome folder.limit (IsIn 1 1099511627)
+  pub most : IsIn 1 1000000 folder.most
+
+-- a neighbour has a station number, and its folder, if it is one, is sound
+pub record IsSoundNeighbour (n : Neighbour) : Type 0 where
+  pub station : IsStationNumber n.station
+  pub folder : IfSome (folder_at n.far) IsSoundFolder
 
 -- each contact lasts, and ends no later than the next one begins
 pub record AreInOrder (contacts : List Contact) : Type 0 where
@@ -21,8 +35,8 @@ pub record IsSoundPlan (plan : ContactPlan) : Type 0 where
   pub station : IsStationNumber plan.station
   pub peer_count : IsIn 1 MAX_PEERS (length plan.peers)
   pub hop_count : IsIn 1 MAX_HOPS (length plan.hops)
-  pub peers : All (λ p. IsStationNumber p.station) plan.peers
-  pub hops : All (λ h. IsStationNumber h.neighbour.station × AreInOrder h.contacts) plan.hops
+  pub peers : All IsSoundNeighbour plan.peers
+  pub hops : All (λ h. IsSoundNeighbour h.neighbour × AreInOrder h.contacts) plan.hops
   pub resends : All (λ h. IsIn MIN_RESEND MAX_RESEND h.resend) plan.hops
   pub rates : All (λ h. IfSome h.rate (IsIn 1 1000000000)) plan.hops
   pub leads : All (λ h. h.lead ≤ 86400) plan.hops

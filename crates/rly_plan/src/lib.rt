@@ -6,6 +6,7 @@
 #![tactic(auto)]
 
 mod contacts;
+mod far_end;
 mod laws;
 mod neighbour;
 mod number_paths;
@@ -13,6 +14,7 @@ mod passes;
 mod plan;
 mod plan_fault;
 
+pub use crate::far_end::{FarEnd, FolderEnd};
 pub use crate::laws::{
     law_edge_wait, law_link_grows_with_time, law_link_never_falls, law_link_runs_while_open,
     law_link_stands_while_closed, law_next_change, law_plan_is_sound,
@@ -20,4 +22,4 @@ pub use crate::laws::{
 pub use crate::neighbour::Neighbour;
 pub use crate::plan::{NextHop, Plan, Route};
 pub use crate::plan_fault::PlanFault;
-pub use rly_plan_syntax::{Addresses, KeyFile, KeyPath, PlanKey, Position, Row, Spot};
+pub use rly_plan_syntax::{Addresses, KeyPath, PlanKey, PlanPath, Position, Row, SocketEnd, Spot};

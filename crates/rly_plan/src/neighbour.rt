@@ -1,13 +1,10 @@
-use rly_plan_syntax::{Addresses, KeyFile};
+use crate::far_end::FarEnd;
 
-/// A neighbour: its station number, 1 to 65,535, the addresses of its link, and the path of its key file, if it has
-/// one.
+/// A neighbour: its station number, 1 to 65,535, and the far end of its link.
 #[derive(Drop)]
 pub struct Neighbour {
     /// The neighbour's station number.
     pub station: u16,
-    /// The addresses of the link.
-    pub addresses: Addresses,
-    /// The path of the link's key file: `None` if the link is not authenticated.
-    pub key: Option<KeyFile>,
+    /// The far end of the link.
+    pub far: FarEnd,
 }

@@ -2,18 +2,26 @@
 
 ghost use Rattle.std.specs.Prelude.{◌≡◌, ◌==◌, map};
 ghost use Rattle.std.specs.List.{list_all, list_any};
-ghost use Rattle.rly_plan.specs.KeyPaths.{first_adjacent, first_contact, first_row, lead_place, neighbour_range_fault};
-ghost use Rattle.rly_plan.specs.KeyPaths.{overlap_place, range_place, repeat_place, rows_range_fault, sorted_place};
+ghost use Rattle.rly_plan.specs.KeyPaths.{far_range_fault, first_adjacent, first_contact, first_row};
+ghost use Rattle.rly_plan.specs.KeyPaths.{folder_range_fault, lead_place, neighbour_range_fault, overlap_place};
+ghost use Rattle.rly_plan.specs.KeyPaths.{range_place, repeat_place, rows_range_fault, sorted_place};
 ghost use Rattle.rly_plan.specs.Passes.{all_adjacent, are_apart, contact_in_range};
 
 use crate::passes::{
-    contact_in_range, contact_of_draft, is_between, is_station, lead_in_range, number_16,
-    rate_in_range, resend_in_range,
+    contact_in_range, contact_of_draft, is_between, is_given_between, is_station, lead_in_range,
+    number_16, rate_in_range, resend_in_range,
 };
-use rly_core::limits::{MAX_CONTACTS, MAX_HOPS, MAX_PEERS};
+use rly_core::limits::{AGE_LIMIT, MAX_CONTACTS, MAX_HOPS, MAX_PEERS};
 use rly_plan_syntax::{
-    ContactDraft, HopDraft, KeyPath, NeighbourDraft, PlanDraft, PlanKey, RouteDraft, Row, Spot,
+    ContactDraft, FarEndDraft, FolderDraft, HopDraft, KeyPath, NeighbourDraft, PlanDraft, PlanKey,
+    RouteDraft, Row, Spot,
 };
+
+/// The greatest `limit` of a peer's folder, in milliseconds.
+const MAX_LIMIT: u64 = (AGE_LIMIT - 1) / 1_000;
+
+/// The greatest `most` of a hop's folder, in files.
+const MAX_FILES: u64 = 1_000_000;
 
 /// The test that a pass applies to each table of an array.
 trait Test<T> {
@@ -76,6 +84,30 @@ fn neighbour_range_fault(id: u64, neighbour: &NeighbourDraft) -> Option<Spot>
     }
     if !is_station(neighbour.station) {
         return Some(Spot::At(PlanKey::Station));
+    }
+    far_range_fault(&neighbour.far)
+}
+
+fn far_range_fault(far: &FarEndDraft) -> Option<Spot>
+    ensures { result ≡ far_range_fault far.now }
+{
+    match far {
+        FarEndDraft::Socket(_) => None,
+        FarEndDraft::Folder(folder) => folder_range_fault(folder),
+    }
+}
+
+fn folder_range_fault(folder: &FolderDraft) -> Option<Spot>
+    ensures { result ≡ folder_range_fault folder.now }
+{
+    if !is_given_between(folder.destination, 1, 65_535) {
+        return Some(Spot::At(PlanKey::Destination));
+    }
+    if !is_given_between(folder.limit, 1, MAX_LIMIT) {
+        return Some(Spot::At(PlanKey::Limit));
+    }
+    if !is_between(folder.most, 1, MAX_FILES) {
+        return Some(Spot::At(PlanKey::Most));
     }
     None
 }
@@ -281,7 +313,7 @@ pub(crate) trait Numbered {
 }
 
 impl Numbered for NeighbourDraft {
-    ghost use Rattle.rly_plan.specs.Passes.{number_16};
+    ghost use Rattle.rly_plan.specs.Numbers.{number_16};
 
     ghost number = { λ p. number_16 p.station };
 
@@ -291,7 +323,7 @@ impl Numbered for NeighbourDraft {
 }
 
 impl Numbered for HopDraft {
-    ghost use Rattle.rly_plan.specs.Passes.{number_16};
+    ghost use Rattle.rly_plan.specs.Numbers.{number_16};
 
     ghost number = { λ h. number_16 h.neighbour.station };
 
@@ -301,7 +333,7 @@ impl Numbered for HopDraft {
 }
 
 impl Numbered for RouteDraft {
-    ghost use Rattle.rly_plan.specs.Passes.{number_16};
+    ghost use Rattle.rly_plan.specs.Numbers.{number_16};
 
     ghost number = { λ r. number_16 r.destination };
 

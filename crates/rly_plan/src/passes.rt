@@ -2,9 +2,9 @@
 //! `number_places` locates no fault for it.
 
 ghost use Rattle.std.specs.Prelude.{◌≡◌, ◌<◌, ◌^◌, ℕ, false, IfOk, map, slice_index_or, vec_len};
-ghost use Rattle.rly_plan.specs.Passes.{contact_from, contact_in_range, is_between, is_in_range, is_sorted, is_station};
-ghost use Rattle.rly_plan.specs.Passes.{lead_in_range, leads_to_hops, number, number_16, number_32, overlaps, rate_in_range};
-ghost use Rattle.rly_plan.specs.Passes.{repeats, resend_in_range};
+ghost use Rattle.rly_plan.specs.Numbers.{is_between, is_given_between, is_station, number, number_16, number_32};
+ghost use Rattle.rly_plan.specs.Passes.{contact_from, contact_in_range, is_in_range, is_sorted, lead_in_range};
+ghost use Rattle.rly_plan.specs.Passes.{leads_to_hops, overlaps, rate_in_range, repeats, resend_in_range};
 
 use crate::contacts::Contact;
 use crate::number_paths::{Numbered, are_apart, lead_place, range_place, sorted_place};
@@ -78,10 +78,7 @@ pub(crate) fn resend_in_range(resend: i64) -> bool
 pub(crate) fn rate_in_range(rate: Option<i64>) -> bool
     ensures { result ≡ rate_in_range rate }
 {
-    match rate {
-        Some(rate) => is_between(rate, 1, MAX_RATE),
-        None => true,
-    }
+    is_given_between(rate, 1, MAX_RATE)
 }
 
 pub(crate) fn lead_in_range(lead: i64) -> bool
@@ -133,6 +130,16 @@ pub(crate) fn is_between(value: i64, least: u64, most: u64) -> bool
     match u64::try_from(value) {
         Ok(value) => least <= value && value <= most,
         Err(_) => false,
+    }
+}
+
+/// Whether a whole number lies from `least` to `most`, if it is given.
+pub(crate) fn is_given_between(value: Option<i64>, least: u64, most: u64) -> bool
+    ensures { result ≡ is_given_between least most value }
+{
+    match value {
+        Some(value) => is_between(value, least, most),
+        None => true,
     }
 }
 

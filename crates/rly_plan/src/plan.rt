@@ -8,6 +8,7 @@ ghost use Rattle.rly_plan.specs.Passes.{all_adjacent, are_apart, contact_from, c
 ghost use Rattle.rly_plan.specs.Passes.{neighbour_from, plan_from, plan_of_draft, route_from};
 
 use crate::contacts::Contacts;
+use crate::far_end::far_end_of_draft;
 use crate::neighbour::Neighbour;
 use crate::number_paths::{lead_place, overlap_place, range_place, sorted_place};
 use crate::passes::{
@@ -417,13 +418,11 @@ fn neighbour_of_draft(draft: NeighbourDraft) -> Neighbour
     let NeighbourDraft {
         id: _,
         station,
-        addresses,
-        key,
+        far,
     } = draft;
     Neighbour {
         station: number_16(station),
-        addresses,
-        key,
+        far: far_end_of_draft(far),
     }
 }
 

@@ -8,10 +8,14 @@ use Rattle.rly_core.specs.declared.limits.TheConstants.{MOMENT_LIMIT}
 use Rattle.rly_plan.specs.Changes.{change_after}
 use Rattle.rly_plan.specs.ContactPlan.{ContactPlan}
 use Rattle.rly_plan.specs.LinkClock.{lies_in_any, open_moments}
+use Rattle.rly_plan.specs.declared.far_end.FarEnd.{FarEnd}
+use Rattle.rly_plan.specs.declared.far_end.FarEnd.TheVariants.{Folder, Socket}
+use Rattle.rly_plan.specs.declared.far_end.FolderEnd.{FolderEnd}
 use Rattle.rly_plan.specs.declared.neighbour.Neighbour.{Neighbour}
 use Rattle.rly_plan.specs.declared.plan.NextHop.{NextHop}
 use Rattle.rly_plan.specs.declared.plan.Route.{Route}
 use Rattle.rly_plan_show.specs.Utc.{utc_text}
+use Rattle.rly_plan_syntax.specs.declared.far_end.SocketEnd.{SocketEnd}
 
 -- a moment, as a date and as microseconds
 abbrev pub moment_text : ℕ → List ℕ
@@ -30,11 +34,31 @@ abbrev pub key_text : Option (List ℕ) → List ℕ
 key_text None = []
 key_text (Some path) = codes " key " ++ path
 
--- station S listen ADDRESS remote ADDRESS, and the key
+-- listen ADDRESS remote ADDRESS, and the key
+abbrev pub socket_text : SocketEnd → List ℕ
+socket_text s =
+    codes " listen " ++ s.addresses.listen ++ codes " remote " ++ s.addresses.remote ++ key_text s.key
+
+-- the destination of a folder's files, and their age limit in milliseconds, if it has them
+abbrev pub destination_text : Option ℕ → List ℕ
+destination_text None = []
+destination_text (Some destination) = codes " destination " ++ decimal destination
+
+abbrev pub limit_text : Option ℕ → List ℕ
+limit_text None = []
+limit_text (Some limit) = codes " limit " ++ decimal limit
+
+-- folder PATH destination D limit L
+abbrev pub folder_text : FolderEnd → List ℕ
+folder_text f = codes " folder " ++ f.path ++ destination_text f.destination ++ limit_text f.limit
+
+abbrev pub far_text : FarEnd → List ℕ
+far_text (Socket socket) = socket_text socket
+far_text (Folder folder) = folder_text folder
+
+-- station S, and the far end of the link
 abbrev pub neighbour_text : Neighbour → List ℕ
-neighbour_text n =
-    codes " station " ++ decimal n.station ++ codes " listen " ++ n.addresses.listen
-    ++ codes " remote " ++ n.addresses.remote ++ key_text n.key ++ 10 ∷ []
+neighbour_text n = codes " station " ++ decimal n.station ++ far_text n.far ++ 10 ∷ []
 
 -- peer P, and the neighbour
 abbrev pub peer_line : ℕ × Neighbour → List ℕ
@@ -63,12 +87,17 @@ rate_text (Some rate) = codes " rate " ++ decimal rate
 abbrev pub lead_text : ℕ → List ℕ
 lead_text lead = if lead == 0 then [] else codes " lead " ++ decimal lead
 
--- both, where there are any
-abbrev pub bounds_text : NextHop → List ℕ
-bounds_text hop = rate_text hop.rate ++ lead_text hop.lead
+-- the number of files at which a folder is full
+abbrev pub most_text : FarEnd → List ℕ
+most_text (Socket socket) = []
+most_text (Folder folder) = codes " most " ++ decimal folder.most
 
--- hop H resend R rate B lead L contacts N open T: milliseconds, bytes a second, seconds, the number of contacts, and
--- the microseconds in all of them
+-- all three, where there are any
+abbrev pub bounds_text : NextHop → List ℕ
+bounds_text hop = rate_text hop.rate ++ lead_text hop.lead ++ most_text hop.neighbour.far
+
+-- hop H resend R rate B lead L most M contacts N open T: milliseconds, bytes a second, seconds, files, the number of
+-- contacts, and the microseconds in all of them
 abbrev pub times_line : ℕ × NextHop → List ℕ
 times_line (id, hop) =
     codes "hop " ++ decimal id ++ codes " resend " ++ decimal hop.resend ++ bounds_text hop

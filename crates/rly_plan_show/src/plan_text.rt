@@ -1,11 +1,12 @@
 ghost use Rattle.std.specs.Prelude.{◌≡◌, ◌<◌, ◌++◌, IfOk, IfSome, OnOk, option_copied, string_bytes};
-ghost use Rattle.rly_plan_show.specs.PlanText.{at_line, bounds_text, hop_line, hop_lines, hops_text, lead_text, neighbour_text};
-ghost use Rattle.rly_plan_show.specs.PlanText.{peer_line, peers_text, rate_text, route_line, routes_text, state_line, state_text};
-ghost use Rattle.rly_plan_show.specs.PlanText.{station_line, text_for_plan, times_line, until_text};
+ghost use Rattle.rly_plan_show.specs.PlanText.{at_line, bounds_text, destination_text, far_text, folder_text, hop_line};
+ghost use Rattle.rly_plan_show.specs.PlanText.{hop_lines, hops_text, lead_text, limit_text, most_text, neighbour_text};
+ghost use Rattle.rly_plan_show.specs.PlanText.{peer_line, peers_text, rate_text, route_line, routes_text, socket_text};
+ghost use Rattle.rly_plan_show.specs.PlanText.{state_line, state_text, station_line, text_for_plan, times_line, until_text};
 
 use crate::utc::Utc;
 use rly_core::limits::MOMENT_LIMIT;
-use rly_plan::{Neighbour, NextHop, Plan, Route};
+use rly_plan::{FarEnd, FolderEnd, Neighbour, NextHop, Plan, Route, SocketEnd};
 use std::alloc::{AllocError, Global};
 
 /// The text of a plan at a moment, in microseconds since the Unix epoch. `Err`: out of memory.
@@ -56,14 +57,63 @@ fn write_neighbour(text: &mut String, neighbour: &Neighbour) -> Result<(), Alloc
     ensures { OnOk result (string_bytes text.new ≡ string_bytes text.old ++ neighbour_text neighbour.now) }
 {
     let station = neighbour.station;
-    let listen = neighbour.addresses.listen();
-    let remote = neighbour.addresses.remote();
-    write!(text, " station {station} listen {listen} remote {remote}")?;
-    if let Some(key) = &neighbour.key {
+    write!(text, " station {station}")?;
+    write_far_end(text, &neighbour.far)?;
+    writeln!(text)?;
+    Ok(())
+}
+
+/// Appends the far end of a link.
+fn write_far_end(text: &mut String, far: &FarEnd) -> Result<(), AllocError>
+    ensures { OnOk result (string_bytes text.new ≡ string_bytes text.old ++ far_text far.now) }
+{
+    match far {
+        FarEnd::Socket(socket) => write_socket(text, socket),
+        FarEnd::Folder(folder) => write_folder(text, folder),
+    }
+}
+
+/// Appends the addresses of a link, and the path of its key file, if it has one.
+fn write_socket(text: &mut String, socket: &SocketEnd) -> Result<(), AllocError>
+    ensures { OnOk result (string_bytes text.new ≡ string_bytes text.old ++ socket_text socket.now) }
+{
+    let listen = socket.addresses.listen();
+    let remote = socket.addresses.remote();
+    write!(text, " listen {listen} remote {remote}")?;
+    if let Some(key) = &socket.key {
         let path = key.path();
         write!(text, " key {path}")?;
     }
-    writeln!(text)?;
+    Ok(())
+}
+
+/// Appends the path of a folder, and the destination and age limit of its files, if it has them.
+fn write_folder(text: &mut String, folder: &FolderEnd) -> Result<(), AllocError>
+    ensures { OnOk result (string_bytes text.new ≡ string_bytes text.old ++ folder_text folder.now) }
+{
+    let path = folder.path.path();
+    write!(text, " folder {path}")?;
+    write_destination(text, folder.destination)?;
+    write_limit(text, folder.limit)
+}
+
+/// Appends the destination of a folder's files, if it has one.
+fn write_destination(text: &mut String, destination: Option<u16>) -> Result<(), AllocError>
+    ensures { OnOk result (string_bytes text.new ≡ string_bytes text.old ++ destination_text destination) }
+{
+    if let Some(destination) = destination {
+        write!(text, " destination {destination}")?;
+    }
+    Ok(())
+}
+
+/// Appends the age limit of a folder's files, if it has one.
+fn write_limit(text: &mut String, limit: Option<u32>) -> Result<(), AllocError>
+    ensures { OnOk result (string_bytes text.new ≡ string_bytes text.old ++ limit_text limit) }
+{
+    if let Some(limit) = limit {
+        write!(text, " limit {limit}")?;
+    }
     Ok(())
 }
 
@@ -99,7 +149,7 @@ fn write_link(text: &mut String, number: u64, hop: &NextHop) -> Result<(), Alloc
     write_neighbour(text, &hop.neighbour)
 }
 
-/// Appends a hop's timeout, rate, lead, number of contacts, and open time.
+/// Appends a hop's timeout, its bounds, its number of contacts, and its open time.
 fn write_times(text: &mut String, number: u64, hop: &NextHop) -> Result<(), AllocError>
     ensures { OnOk result (string_bytes text.new ≡ string_bytes text.old ++ times_line (number, hop.now)) }
 {
@@ -112,12 +162,13 @@ fn write_times(text: &mut String, number: u64, hop: &NextHop) -> Result<(), Allo
     Ok(())
 }
 
-/// Appends a hop's rate and its lead, if it has them.
+/// Appends a hop's rate, its lead, and the number of files at which its folder is full, if it has them.
 fn write_bounds(text: &mut String, hop: &NextHop) -> Result<(), AllocError>
     ensures { OnOk result (string_bytes text.new ≡ string_bytes text.old ++ bounds_text hop.now) }
 {
     write_rate(text, hop.rate)?;
-    write_lead(text, hop.lead)
+    write_lead(text, hop.lead)?;
+    write_most(text, &hop.neighbour.far)
 }
 
 /// Appends a hop's rate, if it has one.
@@ -136,6 +187,17 @@ fn write_lead(text: &mut String, lead: u32) -> Result<(), AllocError>
 {
     if lead != 0 {
         write!(text, " lead {lead}")?;
+    }
+    Ok(())
+}
+
+/// Appends the number of files at which a folder is full, if the far end of the link is one.
+fn write_most(text: &mut String, far: &FarEnd) -> Result<(), AllocError>
+    ensures { OnOk result (string_bytes text.new ≡ string_bytes text.old ++ most_text far.now) }
+{
+    if let FarEnd::Folder(folder) = far {
+        let most = folder.most;
+        write!(text, " most {most}")?;
     }
     Ok(())
 }

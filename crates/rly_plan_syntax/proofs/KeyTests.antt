@@ -7,16 +7,16 @@ use Rattle.rly_plan_syntax.specs.declared.key_path.Row.{Row}
 use Rattle.rly_plan_syntax.specs.declared.key_path.Row.TheVariants as row
 use Rattle.rly_plan_syntax.specs.declared.key_path.Spot.TheVariants as spot
 use Rattle.rly_plan_syntax.specs.DocumentPaths.{first_item, item_unknown, row_unknown, rows_unknown, spot_named, unknown_place, value_unknown}
-use Rattle.rly_plan_syntax.specs.Keys.{has_key, has_no_key, is_known, item_is_known, items_are_known, keys_are_known, row_is_known, rows_are_known}
+use Rattle.rly_plan_syntax.specs.Keys.{has_folder, has_key, has_no_key, is_known, item_is_known, items_are_known, keys_are_known, row_is_known, rows_are_known}
 use Rattle.rly_plan_syntax.proofs.NoPath.{none_map, none_or, none_unless}
 
-none_in_row : (row : Row) (ms : Members) → is_none (row_unknown row ms) ≡ row_is_known row ms
-none_in_row row no_members = refl
-none_in_row row (member name value rest) =
-    none_or _ _ _ _ (none_unless (has_key row name && has_no_key value) (spot_named name)) (none_in_row row rest)
+none_in_row : (row : Row) (folder : Bool) (ms : Members) → is_none (row_unknown row folder ms) ≡ row_is_known row folder ms
+none_in_row row folder no_members = refl
+none_in_row row folder (member name value rest) =
+    none_or _ _ _ _ (none_unless (has_key row folder name && has_no_key value) (spot_named name)) (none_in_row row folder rest)
 
 none_in_item : (row : Row) (value : Data) → is_none (item_unknown row value) ≡ item_is_known row value
-none_in_item row (table members) = none_in_row row members
+none_in_item row (table members) = none_in_row row (has_folder members) members
 none_in_item row value = none_unless (has_no_key value) spot.Whole
 
 none_in_items : (row : Row) (n : ℕ) (items : Items) → is_none (first_item (item_unknown row) row n items) ≡ items_are_known row items

@@ -5,6 +5,7 @@ use Rattle.std.specs.Prelude.{Bool, ◌&&◌, ◌||◌, if◌then◌else◌, is_
 use Rattle.std.specs.Option.{option_or}
 use Rattle.std.specs.Str.{bytes_eq}
 use Rattle.toml.specs.Data.{Data, array, table, Items, no_items, item, Members, no_members, member, get_member}
+use Rattle.rly_plan_syntax.specs.declared.key_path.PlanKey.{PlanKey}
 use Rattle.rly_plan_syntax.specs.declared.key_path.PlanKey.TheVariants as key
 use Rattle.rly_plan_syntax.specs.declared.key_path.KeyPath.{KeyPath}
 use Rattle.rly_plan_syntax.specs.declared.key_path.KeyPath.TheVariants as place
@@ -13,8 +14,8 @@ use Rattle.rly_plan_syntax.specs.declared.key_path.Row.{Row}
 use Rattle.rly_plan_syntax.specs.declared.key_path.Row.TheVariants as row
 use Rattle.rly_plan_syntax.specs.declared.key_path.Spot.{Spot}
 use Rattle.rly_plan_syntax.specs.declared.key_path.Spot.TheVariants as spot
-use Rattle.rly_plan_syntax.specs.Draft.{contact_draft_of, integer_at, key_at, lead_at, rate_at, resend_at, text_at}
-use Rattle.rly_plan_syntax.specs.Keys.{has_key, has_no_key}
+use Rattle.rly_plan_syntax.specs.Draft.{contact_draft_of, integer_at, optional_number, optional_text, text_at}
+use Rattle.rly_plan_syntax.specs.Keys.{has_folder, has_key, has_no_key}
 
 -- the location, unless the test passes
 abbrev pub unless : {A : Type 0} → Bool → A → Option A
@@ -57,15 +58,18 @@ spot_named name =
     else if bytes_eq name (codes "contacts") then spot.At key.Contacts
     else if bytes_eq name (codes "destination") then spot.At key.Destination
     else if bytes_eq name (codes "hop") then spot.At key.Hop
+    else if bytes_eq name (codes "folder") then spot.At key.Folder
+    else if bytes_eq name (codes "limit") then spot.At key.Limit
+    else if bytes_eq name (codes "most") then spot.At key.Most
     else spot.Whole
 
-abbrev pub row_unknown : Row → Members → Option Spot
-row_unknown row no_members = None
-row_unknown row (member name value rest) =
-    option_or (unless (has_key row name && has_no_key value) (spot_named name)) (row_unknown row rest)
+abbrev pub row_unknown : Row → (folder : Bool) → Members → Option Spot
+row_unknown row folder no_members = None
+row_unknown row folder (member name value rest) =
+    option_or (unless (has_key row folder name && has_no_key value) (spot_named name)) (row_unknown row folder rest)
 
 abbrev pub item_unknown : Row → Data → Option Spot
-item_unknown row (table members) = row_unknown row members
+item_unknown row (table members) = row_unknown row (has_folder members) members
 item_unknown row value = unless (has_no_key value) spot.Whole
 
 -- the first item of an array that has a fault, and where in it: items count from n
@@ -93,13 +97,28 @@ unknown_place (member name value rest) = option_or (value_unknown name value) (u
 
 -- ---- pass 3: a key that is missing, or a value of another type
 
+-- the spot of an optional key whose value is no whole number
+abbrev pub unless_number : List ℕ → PlanKey → Members → Option Spot
+unless_number name named ms = unless (is_some (optional_number (get_member name ms))) (spot.At named)
+
+abbrev pub socket_lacks : Members → Option Spot
+socket_lacks ms =
+    option_or (unless (is_some (text_at (codes "listen") ms)) (spot.At key.Listen))
+    (option_or (unless (is_some (text_at (codes "remote") ms)) (spot.At key.Remote))
+    (unless (is_some (optional_text (get_member (codes "key") ms))) (spot.At key.Key)))
+
+abbrev pub folder_lacks : Members → Option Spot
+folder_lacks ms =
+    option_or (unless (is_some (text_at (codes "folder") ms)) (spot.At key.Folder))
+    (option_or (unless_number (codes "destination") key.Destination ms)
+    (option_or (unless_number (codes "limit") key.Limit ms)
+    (unless_number (codes "most") key.Most ms)))
+
 abbrev pub neighbour_lacks : Members → Option Spot
 neighbour_lacks ms =
     option_or (unless (is_some (integer_at (codes "id") ms)) (spot.At key.Id))
     (option_or (unless (is_some (integer_at (codes "station") ms)) (spot.At key.Station))
-    (option_or (unless (is_some (text_at (codes "listen") ms)) (spot.At key.Listen))
-    (option_or (unless (is_some (text_at (codes "remote") ms)) (spot.At key.Remote))
-    (unless (is_some (key_at (get_member (codes "key") ms))) (spot.At key.Key)))))
+    (if has_folder ms then folder_lacks ms else socket_lacks ms))
 
 -- the first item that isn't two whole numbers: items count from n
 abbrev pub first_no_contact : ℕ → Items → Option Spot
@@ -114,9 +133,9 @@ contacts_lack _ = Some (spot.At key.Contacts)
 abbrev pub hop_lacks : Members → Option Spot
 hop_lacks ms =
     option_or (neighbour_lacks ms)
-    (option_or (unless (is_some (resend_at (get_member (codes "resend") ms))) (spot.At key.Resend))
-    (option_or (unless (is_some (rate_at (get_member (codes "rate") ms))) (spot.At key.Rate))
-    (option_or (unless (is_some (lead_at (get_member (codes "lead") ms))) (spot.At key.Lead))
+    (option_or (unless_number (codes "resend") key.Resend ms)
+    (option_or (unless_number (codes "rate") key.Rate ms)
+    (option_or (unless_number (codes "lead") key.Lead ms)
     (contacts_lack (get_member (codes "contacts") ms)))))
 
 abbrev pub route_lacks : Members → Option Spot

@@ -1,10 +1,13 @@
 -- A document that has all its keys, with values of their types, as a draft: its numbers aren't checked yet.
-use Rattle.std.specs.Prelude.{ℕ, ℤ, pos, List, [], ◌∷◌, codes, Option, Some, None, option_and_then}
+use Rattle.std.specs.Prelude.{ℕ, ℤ, pos, List, [], ◌∷◌, codes, Option, Some, None, option_and_then, if◌then◌else◌}
 use Rattle.toml.specs.Data.{Data, as_integer, as_str, as_array, as_table, Items, no_items, item, Members, get_member}
 use Rattle.rly_core.specs.declared.limits.TheConstants.{DEFAULT_RESEND}
 use Rattle.rly_plan_syntax.specs.declared.draft.ContactDraft.{ContactDraft}
 use Rattle.rly_plan_syntax.specs.declared.draft.NeighbourDraft.{NeighbourDraft}
 use Rattle.rly_plan_syntax.specs.declared.draft.RouteDraft.{RouteDraft}
+use Rattle.rly_plan_syntax.specs.declared.far_end.FarEndDraft.{FarEndDraft}
+use Rattle.rly_plan_syntax.specs.declared.far_end.FarEndDraft.TheVariants.{Folder, Socket}
+use Rattle.rly_plan_syntax.specs.Keys.{has_folder}
 
 -- a [[hop]] table
 pub record HopText : Type 0 where
@@ -55,48 +58,60 @@ pair_of _ = None
 abbrev pub contact_draft_of : Data → Option ContactDraft
 contact_draft_of value = as_array value >>= pair_of
 
--- the key file (optional)
-abbrev pub key_at : Option Data → Option (Option (List ℕ))
-key_at None = Some None
-key_at (Some value) = do
-  path ← as_str value
-  Some (Some path)
+-- the text of an optional key: Some None if it is omitted
+abbrev pub optional_text : Option Data → Option (Option (List ℕ))
+optional_text None = Some None
+optional_text (Some value) = do
+  text ← as_str value
+  Some (Some text)
+
+-- the whole number of an optional key: Some None if it is omitted
+abbrev pub optional_number : Option Data → Option (Option ℤ)
+optional_number None = Some None
+optional_number (Some value) = do
+  number ← as_integer value
+  Some (Some number)
+
+-- the whole number of an optional key: another one if it is omitted
+abbrev pub number_or : ℤ → Option Data → Option ℤ
+number_or other None = Some other
+number_or other (Some value) = as_integer value
+
+abbrev pub socket_of : Members → Option FarEndDraft
+socket_of ms = do
+  listen ← text_at (codes "listen") ms
+  remote ← text_at (codes "remote") ms
+  key ← optional_text (get_member (codes "key") ms)
+  Some (Socket (record { addresses = record { listen = listen; remote = remote }; key = key }))
+
+-- a folder; `most` is 1,024 if it is omitted
+abbrev pub folder_of : Members → Option FarEndDraft
+folder_of ms = do
+  path ← text_at (codes "folder") ms
+  destination ← optional_number (get_member (codes "destination") ms)
+  limit ← optional_number (get_member (codes "limit") ms)
+  most ← number_or (pos 1024) (get_member (codes "most") ms)
+  Some (Folder (record { path = path; destination = destination; limit = limit; most = most }))
+
+abbrev pub far_end_of : Members → Option FarEndDraft
+far_end_of ms = if has_folder ms then folder_of ms else socket_of ms
 
 abbrev pub neighbour_of : Members → Option NeighbourDraft
 neighbour_of ms = do
   id ← integer_at (codes "id") ms
   station ← integer_at (codes "station") ms
-  listen ← text_at (codes "listen") ms
-  remote ← text_at (codes "remote") ms
-  key ← key_at (get_member (codes "key") ms)
-  Some (record { id = id; station = station; addresses = record { listen = listen; remote = remote }; key = key })
+  far ← far_end_of ms
+  Some (record { id = id; station = station; far = far })
 
 abbrev pub peer_draft_of : Data → Option NeighbourDraft
 peer_draft_of value = as_table value >>= neighbour_of
 
--- `resend` (optional)
-abbrev pub resend_at : Option Data → Option ℤ
-resend_at None = Some (pos DEFAULT_RESEND)
-resend_at (Some value) = as_integer value
-
--- `rate` (optional): Some None if it is omitted
-abbrev pub rate_at : Option Data → Option (Option ℤ)
-rate_at None = Some None
-rate_at (Some value) = do
-  rate ← as_integer value
-  Some (Some rate)
-
--- `lead` (optional)
-abbrev pub lead_at : Option Data → Option ℤ
-lead_at None = Some (pos 0)
-lead_at (Some value) = as_integer value
-
 abbrev pub hop_in : Members → Option HopText
 hop_in ms = do
   neighbour ← neighbour_of ms
-  resend ← resend_at (get_member (codes "resend") ms)
-  rate ← rate_at (get_member (codes "rate") ms)
-  lead ← lead_at (get_member (codes "lead") ms)
+  resend ← number_or (pos DEFAULT_RESEND) (get_member (codes "resend") ms)
+  rate ← optional_number (get_member (codes "rate") ms)
+  lead ← number_or (pos 0) (get_member (codes "lead") ms)
   contacts ← items_at contact_draft_of (get_member (codes "contacts") ms)
   Some (record { neighbour = neighbour; resend = resend; rate = rate; lead = lead; contacts = contacts })
 

@@ -1,9 +1,9 @@
--- Helpers of private functions: the parts from which a neighbour, a hop and a contact are read.
-use Rattle.std.specs.Prelude.{ℕ, ℤ, List, codes, Option, Some, option_and_then}
+-- Helpers of private functions: the parts from which a hop and a contact are read.
+use Rattle.std.specs.Prelude.{ℤ, pos, List, codes, Option, Some, option_and_then}
 use Rattle.toml.specs.Data.{Data, as_integer, Members, get_member}
+use Rattle.rly_core.specs.declared.limits.TheConstants.{DEFAULT_RESEND}
 use Rattle.rly_plan_syntax.specs.declared.draft.ContactDraft.{ContactDraft}
-use Rattle.rly_plan_syntax.specs.declared.draft.NeighbourDraft.{NeighbourDraft}
-use Rattle.rly_plan_syntax.specs.Draft.{contact_draft_of, items_at, lead_at, rate_at, resend_at}
+use Rattle.rly_plan_syntax.specs.Draft.{contact_draft_of, items_at, number_or, optional_number}
 
 infixl 10 ◌>>=◌
 abbrev ◌>>=◌ : {A B : Type 0} → Option A → (A → Option B) → Option B
@@ -15,11 +15,6 @@ contact_between begin end = do
   e ← as_integer end
   Some (record { begin = b; end = e })
 
--- a neighbour of these parts
-abbrev pub neighbour_text : ℤ → ℤ → List ℕ → List ℕ → Option (List ℕ) → NeighbourDraft
-neighbour_text id station listen remote key =
-    record { id = id; station = station; addresses = record { listen = listen; remote = remote }; key = key }
-
 -- the fields of a [[hop]] table apart from its neighbour
 abbrev pub LinkText : Type 0
 LinkText = ℤ × Option ℤ × ℤ × List ContactDraft
@@ -29,8 +24,8 @@ link_text resend rate lead contacts = (resend, rate, lead, contacts)
 
 abbrev pub link_in : Members → Option LinkText
 link_in ms = do
-  resend ← resend_at (get_member (codes "resend") ms)
-  rate ← rate_at (get_member (codes "rate") ms)
-  lead ← lead_at (get_member (codes "lead") ms)
+  resend ← number_or (pos DEFAULT_RESEND) (get_member (codes "resend") ms)
+  rate ← optional_number (get_member (codes "rate") ms)
+  lead ← number_or (pos 0) (get_member (codes "lead") ms)
   contacts ← items_at contact_draft_of (get_member (codes "contacts") ms)
   Some (link_text resend rate lead contacts)

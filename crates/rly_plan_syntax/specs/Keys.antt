@@ -1,20 +1,26 @@
 -- The keys of a plan, table by table (docs/FORMATS.md, "The plan").
-use Rattle.std.specs.Prelude.{ℕ, Bool, true, false, ◌&&◌, List, [], ◌∷◌, codes, if◌then◌else◌}
+use Rattle.std.specs.Prelude.{ℕ, Bool, true, false, ◌&&◌, List, [], ◌∷◌, codes, if◌then◌else◌, is_some}
 use Rattle.std.specs.List.{list_any}
 use Rattle.std.specs.Str.{bytes_eq}
-use Rattle.toml.specs.Data.{Data, array, table, Items, no_items, item, Members, no_members, member}
+use Rattle.toml.specs.Data.{Data, array, table, Items, no_items, item, Members, no_members, member, get_member}
 use Rattle.rly_plan_syntax.specs.declared.key_path.Row.{Row}
 use Rattle.rly_plan_syntax.specs.declared.key_path.Row.TheVariants.{Peer, Hop, Route}
 
--- the keys of a table of each array
-abbrev pub keys_of : Row → List (List ℕ)
-keys_of Peer = codes "id" ∷ codes "station" ∷ codes "listen" ∷ codes "remote" ∷ codes "key" ∷ []
-keys_of Hop = codes "id" ∷ codes "station" ∷ codes "listen" ∷ codes "remote" ∷ codes "key"
-    ∷ codes "resend" ∷ codes "rate" ∷ codes "lead" ∷ codes "contacts" ∷ []
-keys_of Route = codes "destination" ∷ codes "hop" ∷ []
+-- the far end of the table's link is a folder
+abbrev pub has_folder : Members → Bool
+has_folder ms = is_some (get_member (codes "folder") ms)
 
-abbrev pub has_key : Row → List ℕ → Bool
-has_key row key = list_any (bytes_eq key) (keys_of row)
+-- the keys of a table of each array; one whose link leads to a folder has keys of its own
+abbrev pub keys_of : Row → (folder : Bool) → List (List ℕ)
+keys_of Peer false = codes "id" ∷ codes "station" ∷ codes "listen" ∷ codes "remote" ∷ codes "key" ∷ []
+keys_of Peer true = codes "id" ∷ codes "station" ∷ codes "folder" ∷ codes "destination" ∷ codes "limit" ∷ []
+keys_of Hop false = codes "id" ∷ codes "station" ∷ codes "listen" ∷ codes "remote" ∷ codes "key"
+    ∷ codes "resend" ∷ codes "rate" ∷ codes "lead" ∷ codes "contacts" ∷ []
+keys_of Hop true = codes "id" ∷ codes "station" ∷ codes "folder" ∷ codes "most" ∷ codes "lead" ∷ codes "contacts" ∷ []
+keys_of Route folder = codes "destination" ∷ codes "hop" ∷ []
+
+abbrev pub has_key : Row → (folder : Bool) → List ℕ → Bool
+has_key row folder key = list_any (bytes_eq key) (keys_of row folder)
 
 -- the value has no key at any depth
 abbrev mutual
@@ -29,13 +35,14 @@ abbrev mutual
   items_have_no_key (item value rest) = has_no_key value && items_have_no_key rest
 
 -- each key of the table is known, and its value has no keys
-abbrev pub row_is_known : Row → Members → Bool
-row_is_known row no_members = true
-row_is_known row (member key value rest) = (has_key row key && has_no_key value) && row_is_known row rest
+abbrev pub row_is_known : Row → (folder : Bool) → Members → Bool
+row_is_known row folder no_members = true
+row_is_known row folder (member key value rest) =
+    (has_key row folder key && has_no_key value) && row_is_known row folder rest
 
 -- the same of an item that is a table
 abbrev pub item_is_known : Row → Data → Bool
-item_is_known row (table members) = row_is_known row members
+item_is_known row (table members) = row_is_known row (has_folder members) members
 item_is_known row value = has_no_key value
 
 abbrev pub items_are_known : Row → Items → Bool

@@ -27,6 +27,9 @@ key_text key.Lead = codes "lead"
 key_text key.Contacts = codes "contacts"
 key_text key.Destination = codes "destination"
 key_text key.Hop = codes "hop"
+key_text key.Folder = codes "folder"
+key_text key.Limit = codes "limit"
+key_text key.Most = codes "most"
 
 abbrev pub spot_text : Spot → List ℕ
 spot_text spot.Whole = []

@@ -3,14 +3,14 @@
 
 ghost use Rattle.std.specs.Prelude.{◌≡◌, option_map};
 ghost use Rattle.toml.specs.View.{array_view, table_view, view};
-ghost use Rattle.rly_plan_syntax.specs.DocumentPaths.{contacts_lack, first_item, first_no_contact, hop_lacks};
-ghost use Rattle.rly_plan_syntax.specs.DocumentPaths.{missing_place, neighbour_lacks, route_lacks, routes_lack};
-ghost use Rattle.rly_plan_syntax.specs.DocumentPaths.{row_unknown, rows_lack, rows_unknown, spot_named, table_lacks};
-ghost use Rattle.rly_plan_syntax.specs.DocumentPaths.{unknown_place, value_unknown};
+ghost use Rattle.rly_plan_syntax.specs.DocumentPaths.{contacts_lack, first_item, first_no_contact, folder_lacks};
+ghost use Rattle.rly_plan_syntax.specs.DocumentPaths.{hop_lacks, missing_place, neighbour_lacks, route_lacks};
+ghost use Rattle.rly_plan_syntax.specs.DocumentPaths.{routes_lack, row_unknown, rows_lack, rows_unknown};
+ghost use Rattle.rly_plan_syntax.specs.DocumentPaths.{socket_lacks, spot_named, table_lacks, unknown_place};
+ghost use Rattle.rly_plan_syntax.specs.DocumentPaths.{value_unknown};
 
-use crate::draft::{
-    integer, read_contact, read_key, read_lead, read_rate, read_resend, text, value_at,
-};
+use crate::draft::{integer, optional_integer, optional_text, read_contact, text, value_at};
+use crate::far_end::has_folder;
 use crate::key_path::{KeyPath, PlanKey, Row, Spot};
 use crate::keys::has_no_key;
 use toml::value::Array;
@@ -56,7 +56,7 @@ impl Test for Known {
 
     fn fault(row: Row, item: &Value) -> Option<Spot> {
         match item {
-            Value::Table(table) => row_unknown(row, table),
+            Value::Table(table) => row_unknown(row, has_folder(table), table),
             _ if has_no_key(item) => None,
             _ => Some(Spot::Whole),
         }
@@ -64,11 +64,11 @@ impl Test for Known {
 }
 
 /// The first key of a table that is unknown, or has a key in its value.
-fn row_unknown(row: Row, table: &Table) -> Option<Spot>
-    ensures { result ≡ row_unknown row (table_view table.now) }
+fn row_unknown(row: Row, folder: bool, table: &Table) -> Option<Spot>
+    ensures { result ≡ row_unknown row folder (table_view table.now) }
 {
     for (key, value) in table {
-        if !(row.has_key(key.as_str()) && has_no_key(value)) {
+        if !(row.has_key(folder, key.as_str()) && has_no_key(value)) {
             return Some(spot_named(key.as_str()));
         }
     }
@@ -91,6 +91,9 @@ fn spot_named(name: &str) -> Spot
         "contacts" => Spot::At(PlanKey::Contacts),
         "destination" => Spot::At(PlanKey::Destination),
         "hop" => Spot::At(PlanKey::Hop),
+        "folder" => Spot::At(PlanKey::Folder),
+        "limit" => Spot::At(PlanKey::Limit),
+        "most" => Spot::At(PlanKey::Most),
         _ => Spot::Whole,
     }
 }
@@ -162,14 +165,42 @@ fn neighbour_lacks(table: &Table) -> Option<Spot>
     if integer(table, "station").is_none() {
         return Some(Spot::At(PlanKey::Station));
     }
+    if has_folder(table) {
+        folder_lacks(table)
+    } else {
+        socket_lacks(table)
+    }
+}
+
+fn socket_lacks(table: &Table) -> Option<Spot>
+    ensures { result ≡ socket_lacks (table_view table.now) }
+{
     if text(table, "listen").is_none() {
         return Some(Spot::At(PlanKey::Listen));
     }
     if text(table, "remote").is_none() {
         return Some(Spot::At(PlanKey::Remote));
     }
-    if read_key(table).is_none() {
+    if optional_text(table, "key").is_none() {
         return Some(Spot::At(PlanKey::Key));
+    }
+    None
+}
+
+fn folder_lacks(table: &Table) -> Option<Spot>
+    ensures { result ≡ folder_lacks (table_view table.now) }
+{
+    if text(table, "folder").is_none() {
+        return Some(Spot::At(PlanKey::Folder));
+    }
+    if optional_integer(table, "destination").is_none() {
+        return Some(Spot::At(PlanKey::Destination));
+    }
+    if optional_integer(table, "limit").is_none() {
+        return Some(Spot::At(PlanKey::Limit));
+    }
+    if optional_integer(table, "most").is_none() {
+        return Some(Spot::At(PlanKey::Most));
     }
     None
 }
@@ -180,13 +211,13 @@ fn hop_lacks(table: &Table) -> Option<Spot>
     if let Some(spot) = neighbour_lacks(table) {
         return Some(spot);
     }
-    if read_resend(table).is_none() {
+    if optional_integer(table, "resend").is_none() {
         return Some(Spot::At(PlanKey::Resend));
     }
-    if read_rate(table).is_none() {
+    if optional_integer(table, "rate").is_none() {
         return Some(Spot::At(PlanKey::Rate));
     }
-    if read_lead(table).is_none() {
+    if optional_integer(table, "lead").is_none() {
         return Some(Spot::At(PlanKey::Lead));
     }
     contacts_lack(value_at(table, "contacts"))

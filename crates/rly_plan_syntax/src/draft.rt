@@ -2,11 +2,10 @@ ghost use Rattle.std.specs.Prelude.{◌≡◌, ◌≢◌, None, codes, IfOk, OnE
 ghost use Rattle.toml.specs.View.{array_view, table_view, view};
 ghost use Rattle.toml.specs.Data.{get_member};
 ghost use Rattle.rly_plan_syntax.specs.Draft.{contact_draft_of, draft_of, each_item, hop_in, integer_at, items_at};
-ghost use Rattle.rly_plan_syntax.specs.Draft.{key_at, lead_at, neighbour_of, rate_at, resend_at, routes_at, text_at};
-ghost use Rattle.rly_plan_syntax.specs.HelpersDraft.{contact_between, link_in, link_text, neighbour_text};
+ghost use Rattle.rly_plan_syntax.specs.Draft.{neighbour_of, number_or, optional_number, optional_text, routes_at, text_at};
+ghost use Rattle.rly_plan_syntax.specs.HelpersDraft.{contact_between, link_in, link_text};
 
-use crate::addresses::Addresses;
-use crate::key_file::KeyFile;
+use crate::far_end::{FarEndDraft, read_far_end};
 use rly_core::limits::DEFAULT_RESEND;
 use std::alloc::{AllocError, Global};
 use std::marker::Model;
@@ -20,10 +19,8 @@ pub struct NeighbourDraft {
     pub id: i64,
     /// The neighbour's station number.
     pub station: i64,
-    /// The addresses of the link.
-    pub addresses: Addresses,
-    /// The file of the link's key, if the table names one.
-    pub key: Option<KeyFile>,
+    /// The far end of the link.
+    pub far: FarEndDraft,
 }
 
 /// A contact as the text writes it, in microseconds since the Unix epoch.
@@ -211,13 +208,13 @@ fn read_link(alloc: Global, table: &Table) -> Result<Option<LinkDraft>, AllocErr
         (λ found. option_map (λ l. link_text l.resend l.rate l.lead l.contacts.items) found
         ≡ link_in (table_view table.now)) }
 {
-    let Some(resend) = read_resend(table) else {
+    let Some(resend) = integer_or(table, "resend", DEFAULT_RESEND as i64) else {
         return Ok(None);
     };
-    let Some(rate) = read_rate(table) else {
+    let Some(rate) = optional_integer(table, "rate") else {
         return Ok(None);
     };
-    let Some(lead) = read_lead(table) else {
+    let Some(lead) = integer_or(table, "lead", 0) else {
         return Ok(None);
     };
     match read_items::<ContactDraft>(alloc, value_at(table, "contacts"))? {
@@ -305,124 +302,53 @@ pub(crate) fn text<'a>(table: &'a Table, key: &str) -> Option<&'a str>
     }
 }
 
-/// The `resend` of a hop (optional).
-pub(crate) fn read_resend(table: &Table) -> Option<i64>
-    ensures { result ≡ resend_at (get_member (codes "resend") (table_view table.now)) }
+/// The whole number at an optional key: another one if the table omits it.
+pub(crate) fn integer_or(table: &Table, key: &str, other: i64) -> Option<i64>
+    ensures { result ≡ number_or other (get_member key.now (table_view table.now)) }
 {
-    match value_at(table, "resend") {
+    match value_at(table, key) {
         Some(value) => value.as_integer(),
-        None => Some(DEFAULT_RESEND as i64),
+        None => Some(other),
     }
 }
 
-/// The `rate` of a hop (optional).
-pub(crate) fn read_rate(table: &Table) -> Option<Option<i64>>
-    ensures { result ≡ rate_at (get_member (codes "rate") (table_view table.now)) }
+/// The whole number at an optional key.
+pub(crate) fn optional_integer(table: &Table, key: &str) -> Option<Option<i64>>
+    ensures { result ≡ optional_number (get_member key.now (table_view table.now)) }
 {
-    match value_at(table, "rate") {
+    match value_at(table, key) {
         Some(value) => match value.as_integer() {
-            Some(rate) => Some(Some(rate)),
+            Some(number) => Some(Some(number)),
             None => None,
         },
         None => Some(None),
     }
 }
 
-/// The `lead` of a hop (optional).
-pub(crate) fn read_lead(table: &Table) -> Option<i64>
-    ensures { result ≡ lead_at (get_member (codes "lead") (table_view table.now)) }
+/// The text at an optional key.
+pub(crate) fn optional_text<'a>(table: &'a Table, key: &str) -> Option<Option<&'a str>>
+    ensures { option_map option_copied result ≡ optional_text (get_member key.now (table_view table.now)) }
 {
-    match value_at(table, "lead") {
-        Some(value) => value.as_integer(),
-        None => Some(0),
+    match value_at(table, key) {
+        Some(value) => match value.as_str() {
+            Some(text) => Some(Some(text)),
+            None => None,
+        },
+        None => Some(None),
     }
 }
 
 fn read_neighbour(alloc: Global, table: &Table) -> Result<Option<NeighbourDraft>, AllocError>
     ensures { IfOk result (λ found. found ≡ neighbour_of (table_view table.now)) }
 {
-    match read_parts(table) {
-        Some(parts) => Ok(Some(copy_of_text(alloc, parts)?)),
-        None => Ok(None),
-    }
-}
-
-/// The fields of a neighbour in a table.
-struct Parts<'a> {
-    id: i64,
-    station: i64,
-    listen: &'a str,
-    remote: &'a str,
-    path: Option<&'a str>,
-}
-
-fn read_parts(table: &Table) -> Option<Parts>
-    ensures { option_map (λ p. neighbour_text p.id p.station p.listen.now p.remote.now (option_copied p.path)) result
-        ≡ neighbour_of (table_view table.now) }
-{
     let Some(id) = integer(table, "id") else {
-        return None;
+        return Ok(None);
     };
     let Some(station) = integer(table, "station") else {
-        return None;
+        return Ok(None);
     };
-    let Some(listen) = text(table, "listen") else {
-        return None;
-    };
-    let Some(remote) = text(table, "remote") else {
-        return None;
-    };
-    match read_key(table) {
-        Some(path) => Some(Parts {
-            id,
-            station,
-            listen,
-            remote,
-            path,
-        }),
-        None => None,
-    }
-}
-
-fn copy_of_text(alloc: Global, parts: Parts) -> Result<NeighbourDraft, AllocError>
-    ensures { IfOk result
-        (λ n. n ≡ neighbour_text parts.entry.id parts.entry.station parts.entry.listen.now parts.entry.remote.now
-        (option_copied parts.entry.path)) }
-{
-    let Parts {
-        id,
-        station,
-        listen,
-        remote,
-        path,
-    } = parts;
-    Ok(NeighbourDraft {
-        id,
-        station,
-        addresses: Addresses::copy(alloc, listen, remote)?,
-        key: key_file(alloc, path)?,
-    })
-}
-
-/// The `key` of a neighbour (optional).
-pub(crate) fn read_key(table: &Table) -> Option<Option<&str>>
-    ensures { option_map option_copied result ≡ key_at (get_member (codes "key") (table_view table.now)) }
-{
-    match value_at(table, "key") {
-        Some(value) => match value.as_str() {
-            Some(path) => Some(Some(path)),
-            None => None,
-        },
-        None => Some(None),
-    }
-}
-
-/// The key file at a path, if one is given.
-fn key_file(alloc: Global, path: Option<&str>) -> Result<Option<KeyFile>, AllocError>
-    ensures { IfOk result (λ file. file ≡ option_copied path.entry) }
-{
-    match path {
-        Some(path) => Ok(Some(KeyFile::copy(alloc, path)?)),
+    match read_far_end(alloc, table)? {
+        Some(far) => Ok(Some(NeighbourDraft { id, station, far })),
         None => Ok(None),
     }
 }

@@ -52,6 +52,12 @@ pub enum PlanKey {
     Destination,
     /// `hop`
     Hop,
+    /// `folder`
+    Folder,
+    /// `limit`
+    Limit,
+    /// `most`
+    Most,
 }
 
 impl PlanKey {
@@ -74,6 +80,9 @@ impl PlanKey {
             PlanKey::Contacts => "contacts",
             PlanKey::Destination => "destination",
             PlanKey::Hop => "hop",
+            PlanKey::Folder => "folder",
+            PlanKey::Limit => "limit",
+            PlanKey::Most => "most",
         }
     }
 }

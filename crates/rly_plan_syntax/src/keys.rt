@@ -1,6 +1,6 @@
 //! Pass 2: whether each key of a document is known in its table.
 
-ghost use Rattle.std.specs.Prelude.{◌≡◌, ◌∷◌, [], codes};
+ghost use Rattle.std.specs.Prelude.{◌≡◌, ◌∷◌, [], codes, false, true};
 ghost use Rattle.std.specs.List.{list_any};
 ghost use Rattle.std.specs.Str.{bytes_eq};
 ghost use Rattle.toml.specs.View.{table_view, view};
@@ -14,19 +14,41 @@ impl Row {
     ghost use Rattle.std.specs.Prelude.{◌≡◌};
     ghost use Rattle.rly_plan_syntax.specs.Keys.{has_key};
 
-    /// Whether a table of the array may have the key.
-    pub(crate) fn has_key(self, key: &str) -> bool
-        ensures { result ≡ has_key self key.now }
+    /// Whether a table of the array may have the key. A table whose link leads to a folder has keys of its own.
+    pub(crate) fn has_key(self, folder: bool, key: &str) -> bool
+        ensures { result ≡ has_key self folder key.now }
     {
         match self {
-            Row::Peer => is_neighbour_key(key),
-            Row::Hop => is_neighbour_key(key) || is_link_key(key),
+            Row::Peer if folder => is_incoming_key(key),
+            Row::Peer => is_socket_key(key),
+            Row::Hop if folder => is_outgoing_key(key),
+            Row::Hop => is_socket_key(key) || is_link_key(key),
             Row::Route => key == "destination" || key == "hop",
         }
     }
 }
 
-/// Whether a key is one that a hop has and a peer doesn't.
+/// Whether a peer that is a folder has the key.
+fn is_incoming_key(key: &str) -> bool
+    ensures { result ≡ has_key Row.Peer true key.now }
+{
+    match key {
+        "id" | "station" | "folder" | "destination" | "limit" => true,
+        _ => false,
+    }
+}
+
+/// Whether a hop that is a folder has the key.
+fn is_outgoing_key(key: &str) -> bool
+    ensures { result ≡ has_key Row.Hop true key.now }
+{
+    match key {
+        "id" | "station" | "folder" | "most" | "lead" | "contacts" => true,
+        _ => false,
+    }
+}
+
+/// Whether a key is one that a hop at a socket has and a peer doesn't.
 fn is_link_key(key: &str) -> bool
     ensures { result
         ≡ list_any (bytes_eq key.now) (codes "resend" ∷ codes "rate" ∷ codes "lead" ∷ codes "contacts" ∷ []) }
@@ -37,8 +59,8 @@ fn is_link_key(key: &str) -> bool
     }
 }
 
-fn is_neighbour_key(key: &str) -> bool
-    ensures { result ≡ has_key Row.Peer key.now }
+fn is_socket_key(key: &str) -> bool
+    ensures { result ≡ has_key Row.Peer false key.now }
 {
     match key {
         "id" | "station" | "listen" | "remote" | "key" => true,

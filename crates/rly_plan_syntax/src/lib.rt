@@ -8,15 +8,17 @@
 mod addresses;
 mod document_paths;
 mod draft;
-mod key_file;
+mod far_end;
 mod key_path;
 mod keys;
+mod plan_path;
 mod position;
 
 pub use crate::addresses::Addresses;
 pub use crate::document_paths::{missing_place, unknown_place};
 pub use crate::draft::{ContactDraft, HopDraft, NeighbourDraft, PlanDraft, RouteDraft};
-pub use crate::key_file::KeyFile;
+pub use crate::far_end::{FarEndDraft, FolderDraft, SocketEnd};
 pub use crate::key_path::{KeyPath, PlanKey, Position, Row, Spot};
 pub use crate::keys::keys_are_known;
+pub use crate::plan_path::PlanPath;
 pub use crate::position::position_after;

@@ -1,5 +1,5 @@
--- The warnings of a serving station: failed sends and reads, packets with a wrong tag, a clock that is set, and a
--- receive buffer that is too small (docs/COMMANDS.md, "rly serve").
+-- The warnings of a serving station: failed sends and reads, packets with a wrong tag, a clock that is set, folders that
+-- fail or stop, and a receive buffer that is too small (docs/COMMANDS.md, "rly serve").
 use Rattle.std.specs.Prelude.{◌≡◌, ℕ, ◌+◌, ◌-◌, ◌%◌, ◌/◌, ◌^◌, ◌==◌, min, ℤ, unsigned_abs}
 use Rattle.std.specs.Prelude.{if◌then◌else◌, codes, replicate, slice_index_or}
 use Rattle.std.specs.Prelude.{Bool, true, false, not, ◌||◌, List, [], ◌∷◌, ◌++◌, map, set, Option, Some, None}
@@ -9,12 +9,14 @@ use Rattle.std.specs.Option.{option_map}
 use Rattle.std.specs.declared.io.Error.{Error}
 use Rattle.rly_station.specs.declared.failed_calls.FailedCalls.{FailedCalls}
 use Rattle.rly_station.specs.declared.logger.Logger.{Logger}
+use Rattle.rly_station.specs.declared.folder_stop.FolderStop.{FolderStop}
+use Rattle.rly_station.specs.declared.folder_stop.FolderStop.TheVariants as stop
 use Rattle.rly_station.specs.declared.warning.SystemCall.{SystemCall}
-use Rattle.rly_station.specs.declared.warning.SystemCall.TheVariants.{Read, Send}
+use Rattle.rly_station.specs.declared.warning.SystemCall.TheVariants.{Folder, Read, Send}
 use Rattle.rly_station.specs.declared.warning.ClockStep.{ClockStep}
 use Rattle.rly_station.specs.declared.warning.ClockStep.TheVariants.{Forward, Back}
 use Rattle.rly_station.specs.declared.warning.Warning.{Warning}
-use Rattle.rly_station.specs.declared.warning.Warning.TheVariants.{ClockSet, FailedCall, SmallBuffer, WrongTag}
+use Rattle.rly_station.specs.declared.warning.Warning.TheVariants.{ClockSet, FailedCall, ForeignName, NoFile, SmallBuffer, WrongTag}
 use Rattle.rly_link.specs.declared.turn.Worker.{Worker}
 use Rattle.rly_link.specs.declared.turn.Worker.TheVariants as worker
 
@@ -27,11 +29,20 @@ name_text (worker.Sender hop) = codes "hop " ++ decimal hop.0
 abbrev pub call_text : SystemCall → List ℕ
 call_text (Send w) = name_text w ++ codes ": send failed"
 call_text Read = codes "device: read failed"
+call_text (Folder w) = name_text w ++ codes ": folder call failed"
 
 -- how far the clock was set, in milliseconds
 abbrev pub step_text : ClockStep → List ℕ
 step_text (Forward by) = codes "the clock was set ahead by " ++ decimal (by / 1000) ++ codes " ms"
 step_text (Back by) = codes "the clock was set back by " ++ decimal (by / 1000) ++ codes " ms"
+
+-- why no file of a peer's folder is given
+abbrev pub stop_text : FolderStop → List ℕ
+stop_text (stop.Apart custody least greatest) =
+    codes "sent has "
+    ++ (decimal least ++ (codes " to " ++ (decimal greatest ++ (codes ", not from " ++ (decimal custody ++ codes ": mv -n sent/* new")))))
+stop_text (stop.File number refusal) = codes "file " ++ (decimal number ++ (codes " of sent refused (" ++ (decimal refusal ++ codes ")")))
+stop_text (stop.Question refusal) = codes "last number refused (" ++ decimal refusal ++ codes ")"
 
 -- the line of a warning, without its newline; that of a failed call has the system's text, which no clause knows
 abbrev pub warning_text : Warning → Option (List ℕ)
@@ -39,6 +50,8 @@ warning_text (FailedCall call count word) = None
 warning_text (WrongTag w count) =
     Some (codes "rly: " ++ name_text w ++ codes ": wrong tag (" ++ decimal count ++ codes " so far)")
 warning_text (ClockSet step) = Some (codes "rly: " ++ step_text step)
+warning_text (NoFile w stop) = Some (codes "rly: " ++ name_text w ++ codes ": " ++ stop_text stop)
+warning_text (ForeignName w) = Some (codes "rly: " ++ name_text w ++ codes ": foreign name in the folder ignored")
 warning_text (SmallBuffer wanted granted) =
     Some (codes "rly: receive buffer of "
     ++ (decimal granted ++ (codes " bytes: set net.core.rmem_max to " ++ decimal wanted)))

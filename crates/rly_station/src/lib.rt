@@ -1,10 +1,11 @@
 //! A station's files, keys, faults and warnings; no socket, clock or thread.
 //!
-//! `read_plan` and `read_keys` read the plan and the keys of its links (`specs/Keys.antt`).
+//! `read_plan` and `read_keys` read the plan, the keys of its links and the paths of its folders
+//! (`specs/Keys.antt`).
 //! `ServeFault` and `FileFault` say why a station can't serve (`specs/Faults.antt`). `FailedCalls`
 //! counts failed sends and reads and logs the first of each kind and every thousandth
 //! (`specs/Warnings.antt`); `buffer_warning` decides which receive buffer is too small
-//! (`specs/ReceiveBuffers.antt`). Callers: `rly_link_udp`, `rly_daemon_commands`,
+//! (`specs/ReceiveBuffers.antt`). Callers: `rly_link_udp`, `rly_posts`, `rly_daemon_commands`,
 //! `rly_daemon_serve` and `rly_daemon`.
 #![tactic(auto)]
 
@@ -12,6 +13,8 @@ mod address_fault;
 mod error_lines;
 mod failed_calls;
 mod file_fault;
+mod folder_fault;
+mod folder_stop;
 mod key_fault;
 mod logger;
 mod moment;
@@ -27,6 +30,8 @@ pub use crate::address_fault::{AddressFault, End, EndFault};
 pub use crate::error_lines::ErrorLines;
 pub use crate::failed_calls::FailedCalls;
 pub use crate::file_fault::{Cause, FileFault, FilePart, SystemWord};
+pub use crate::folder_fault::{FolderFault, FolderPart, FolderWord};
+pub use crate::folder_stop::FolderStop;
 pub use crate::key_fault::{KeyFault, KeyWord};
 pub use crate::logger::Logger;
 pub use crate::moment::moment_of;
@@ -36,3 +41,4 @@ pub use crate::receive_buffer::{buffer_warning, wanted_buffer};
 pub use crate::serve_fault::ServeFault;
 pub use crate::warning::{ClockStep, SystemCall, Warning};
 pub use crate::worker_name::WorkerName;
+pub use crate::workers::neighbour_of;

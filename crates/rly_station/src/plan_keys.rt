@@ -1,15 +1,16 @@
-//! The keys of a plan's links, and their files.
+//! The keys and the folders of a plan's links, and their paths.
 
-ghost use Rattle.std.specs.Prelude.{◌≡◌, IfOk, option_copied, string_bytes};
-ghost use Rattle.rly_station.specs.Keys.{AreKeysOf, worker_and_file, key_file_of, key_in, path_beside};
+ghost use Rattle.std.specs.Prelude.{◌≡◌, IfOk, option_copied, option_map, string_bytes};
+ghost use Rattle.rly_station.specs.Keys.{AreFoldersOf, AreKeysOf, folder_of, folder_path_of, key_file_of, key_in};
+ghost use Rattle.rly_station.specs.Keys.{path_beside, worker_and_file, worker_and_folder};
 ghost use Rattle.rly_plan.specs.Sound.{IsSoundPlan};
 
 use crate::key_fault::{KeyFault, KeyWord};
 use crate::serve_fault::ServeFault;
-use crate::workers::workers_of;
+use crate::workers::{neighbour_of, workers_of};
 use rly_link::Worker;
 use rly_link_auth::{Key, LINE_BYTES};
-use rly_plan::{KeyFile, Plan};
+use rly_plan::{FolderEnd, Plan, PlanPath};
 use std::alloc::{AllocError, Global};
 use std::fs::{File, Files};
 use std::marker::Model;
@@ -25,7 +26,7 @@ const OTHERS: u32 = 0o077;
 /// The key of a link, and the file in which the plan names it.
 #[derive(Drop)]
 pub struct NamedKey<'a> {
-    file: &'a KeyFile,
+    file: &'a PlanPath,
     key: Key,
 }
 
@@ -46,13 +47,15 @@ impl<'a> NamedKey<'a> {
     }
 }
 
-/// A worker of a plan, and the key of its link, if it has one.
+/// A worker of a plan, and the key or the folder of its link, if it has one.
 #[derive(Drop)]
 pub struct KeyedWorker<'a> {
     /// Its identity.
     pub worker: Worker,
     /// The key, if the plan names a file.
     pub key: Option<NamedKey<'a>>,
+    /// The path of the folder that plays its neighbour, if the plan names one. It wasn't opened.
+    pub folder: Option<String>,
 }
 
 /// The keys of a plan's links.
@@ -79,8 +82,8 @@ impl<'a> PlanKeys<'a> {
     }
 }
 
-/// Reads the keys of a plan's links from the files that the plan names. Their paths begin at the folder of the plan's
-/// own file, which is at `path`.
+/// Reads the keys of a plan's links from the files that the plan names. Their paths, and those of folders that play
+/// neighbours, begin at the folder of the plan's own file, which is at `path`.
 pub fn read_keys<'a, H: AllocGlobal + Files<File = File>>(
     rt: &H,
     plan: &'a Plan,
@@ -89,6 +92,8 @@ pub fn read_keys<'a, H: AllocGlobal + Files<File = File>>(
     requires sound { IsSoundPlan plan.now }
     // The link of each worker has the key of the file that the plan names for it, and no key if it names none.
     ensures keys { IfOk result (λ keys. AreKeysOf plan.now keys) }
+    // And it has the path of the folder that the plan names for it, and no path if it names none.
+    ensures folders { IfOk result (λ keys. AreFoldersOf path.now plan.now keys) }
 {
     let mut links = Vec::new(rt.alloc());
     for worker in workers_of(rt.alloc(), plan)? {
@@ -100,38 +105,62 @@ pub fn read_keys<'a, H: AllocGlobal + Files<File = File>>(
     Ok(PlanKeys { links })
 }
 
-/// A worker, and the key of its link.
+/// A worker, and the key or the folder of its link.
 fn worker_with_key<'a, H: AllocGlobal + Files<File = File>>(
     rt: &H,
     plan: &'a Plan,
     worker: Worker,
     path: &str,
 ) -> Result<KeyedWorker<'a>, ServeFault>
-    ensures { IfOk result (λ link. worker_and_file link ≡ (worker, key_file_of plan.now worker)) }
+    ensures key { IfOk result (λ link. worker_and_file link ≡ (worker, key_file_of plan.now worker)) }
+    ensures folder { IfOk result (λ link. worker_and_folder link ≡ (worker, folder_path_of path.now plan.now worker)) }
 {
     let key = match key_file_of(plan, worker) {
         Some(file) => Some(read_key(rt, worker, file, path)?),
         None => None,
     };
-    Ok(KeyedWorker { worker, key })
+    let folder = folder_beside(rt.alloc(), plan, worker, path)?;
+    Ok(KeyedWorker {
+        worker,
+        key,
+        folder,
+    })
+}
+
+/// The path of the folder that plays a worker's neighbour, if the plan names one.
+fn folder_beside(
+    alloc: Global,
+    plan: &Plan,
+    worker: Worker,
+    path: &str,
+) -> Result<Option<String>, AllocError>
+    ensures { IfOk result (λ folder. option_map string_bytes folder ≡ folder_path_of path.now plan.now worker) }
+{
+    match folder_of(plan, worker) {
+        Some(folder) => Ok(Some(path_beside(alloc, path, folder.path.path())?)),
+        None => Ok(None),
+    }
+}
+
+/// The folder that plays a worker's neighbour, if the plan names one.
+fn folder_of(plan: &Plan, worker: Worker) -> Option<&FolderEnd>
+    ensures { option_copied result ≡ folder_of plan.now worker }
+{
+    neighbour_of(plan, worker)?.far.folder()
 }
 
 /// The key file of a worker's link, if the plan names one.
-fn key_file_of(plan: &Plan, worker: Worker) -> Option<&KeyFile>
+fn key_file_of(plan: &Plan, worker: Worker) -> Option<&PlanPath>
     ensures { option_copied result ≡ key_file_of plan.now worker }
 {
-    let neighbour = match worker {
-        Worker::Receiver(peer) => plan.peer(peer),
-        Worker::Sender(hop) => plan.hop(hop),
-    };
-    neighbour?.key.as_ref()
+    neighbour_of(plan, worker)?.far.key()
 }
 
 /// Reads the key in a file that a plan names.
 fn read_key<'a, H: AllocGlobal + Files<File = File>>(
     rt: &H,
     worker: Worker,
-    file: &'a KeyFile,
+    file: &'a PlanPath,
     plan: &str,
 ) -> Result<NamedKey<'a>, ServeFault>
     ensures { IfOk result (λ key. key.file ≡ file.now) }
@@ -143,7 +172,7 @@ fn read_key<'a, H: AllocGlobal + Files<File = File>>(
     }
 }
 
-/// The path of a key file, from the path of the plan and the one that the plan names.
+/// The path of a key file or a folder, from the path of the plan and the one that the plan names.
 fn path_beside(alloc: Global, plan: &str, named: &str) -> Result<String, AllocError>
     ensures { IfOk result (λ path. string_bytes path ≡ path_beside plan.now named.now) }
 {

@@ -1,5 +1,6 @@
 use crate::address_fault::AddressFault;
 use crate::file_fault::{Cause, SystemWord};
+use crate::folder_fault::FolderFault;
 use crate::key_fault::KeyFault;
 use rly_core::Refusal;
 use rly_plan::PlanFault;
@@ -18,6 +19,9 @@ pub enum ServeFault {
     /// A file is no valid key for a link.
     #[error("rly: key failed\nrly: {0}")]
     Key(KeyFault),
+    /// A folder can't play a neighbour.
+    #[error("rly: folder failed\nrly: {0}")]
+    Folder(FolderFault),
     /// There was no thread for a worker or the reporter.
     #[error("rly: worker failed")]
     Worker,

@@ -1,6 +1,7 @@
 //! The warnings of a serving station.
 
 use crate::file_fault::SystemWord;
+use crate::folder_stop::FolderStop;
 use crate::worker_name::WorkerName;
 use rly_link::Worker;
 use std::fmt;
@@ -34,6 +35,8 @@ pub enum SystemCall {
     Send(Worker),
     /// The reads of the device.
     Read,
+    /// The calls of the folder that plays a worker's neighbour.
+    Folder(Worker),
 }
 
 impl Display for SystemCall {
@@ -46,6 +49,7 @@ impl Display for SystemCall {
         match self {
             SystemCall::Send(worker) => write!(f, "{}: send failed", WorkerName(*worker)),
             SystemCall::Read => write!(f, "device: read failed"),
+            SystemCall::Folder(worker) => write!(f, "{}: folder call failed", WorkerName(*worker)),
         }
     }
 }
@@ -66,6 +70,13 @@ pub enum Warning {
     },
     /// The wall clock was set.
     ClockSet(ClockStep),
+    /// No file of a peer's folder is given any more: the link's worker, and why.
+    NoFile {
+        worker: Worker,
+        stop: FolderStop,
+    },
+    /// A name in a folder isn't the folder's, and is ignored.
+    ForeignName(Worker),
     /// A link's receive buffer is smaller than it wants, in bytes: the system has a limit.
     SmallBuffer {
         wanted: u32,
@@ -89,6 +100,12 @@ impl Display for Warning {
                 WorkerName(*worker)
             ),
             Warning::ClockSet(step) => write!(f, "rly: {step}"),
+            Warning::NoFile { worker, stop } => write!(f, "rly: {}: {stop}", WorkerName(*worker)),
+            Warning::ForeignName(worker) => write!(
+                f,
+                "rly: {}: foreign name in the folder ignored",
+                WorkerName(*worker)
+            ),
             Warning::SmallBuffer { wanted, granted } => write!(
                 f,
                 "rly: receive buffer of {granted} bytes: set net.core.rmem_max to {wanted}"

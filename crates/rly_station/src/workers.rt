@@ -1,12 +1,12 @@
 //! The workers of a plan.
 
-ghost use Rattle.std.specs.Prelude.{◌≡◌, ◌++◌, IfOk, OnOk};
+ghost use Rattle.std.specs.Prelude.{◌≡◌, ◌++◌, IfOk, OnOk, option_copied};
 ghost use Rattle.rly_plan.specs.Sound.{IsSoundPlan};
-ghost use Rattle.rly_station.specs.Workers.{receivers, senders, workers_of};
+ghost use Rattle.rly_station.specs.Workers.{neighbour_of, receivers, senders, workers_of};
 
 use rly_core::{HopId, PeerId};
 use rly_link::Worker;
-use rly_plan::Plan;
+use rly_plan::{Neighbour, Plan};
 use std::alloc::{AllocError, Global};
 
 /// A receiver for each peer of a plan, and a sender for each hop.
@@ -38,4 +38,14 @@ fn add_senders(workers: &mut Vec<Worker>, count: u16) -> Result<(), AllocError>
         workers.push(Worker::Sender(HopId(index + 1)))?;
     }
     Ok(())
+}
+
+/// The neighbour of a worker: `None` if it isn't in the plan.
+pub fn neighbour_of(plan: &Plan, worker: Worker) -> Option<&Neighbour>
+    ensures { option_copied result ≡ neighbour_of plan.now worker }
+{
+    match worker {
+        Worker::Receiver(peer) => plan.peer(peer),
+        Worker::Sender(hop) => plan.hop(hop),
+    }
 }

@@ -1,6 +1,6 @@
 //! The values of plans by ids, destinations and moments that `rly plan` doesn't print.
 use rly_core::{HopId, PeerId};
-use rly_plan::{Neighbour, Plan};
+use rly_plan::{FolderEnd, Neighbour, Plan};
 use std::process::Abort;
 
 /// The plan of `docs/FORMATS.md`, "The plan".
@@ -140,6 +140,47 @@ fn an_id_has_its_neighbour(rt: HostRuntime) {
     neighbours(
         &rt,
         &Plan::from_toml(rt.alloc(), WHOLE).expect(&rt, "no fault"),
+    );
+}
+
+/// Two peers and two hops at folders. The first of each has the keys that a folder may have, the second has none.
+const FOLDERS: &str = "station = 7
+peer = [
+  { id = 1, station = 3, folder = 'in', destination = 12, limit = 60_000 },
+  { id = 2, station = 4, folder = '/srv/in' },
+]
+hop = [
+  { id = 1, station = 9, folder = 'out', most = 100, contacts = [] },
+  { id = 2, station = 10, folder = '/srv/out', contacts = [] },
+]
+";
+
+/// An id, the destination and the limit of the peer's files, or 0 if they have none, and the `most` of the hop's.
+const FOLDER_OF: [(u16, u16, u32, u32); 2] = [(1, 12, 60_000, 100), (2, 0, 0, 1_024)];
+
+/// The folder of a neighbour, which then has neither addresses nor a key.
+fn folder_of<'a, R: Abort>(rt: &R, neighbour: Option<&'a Neighbour>) -> &'a FolderEnd {
+    let far = &neighbour.expect(rt, "a neighbour").far;
+    expect!(rt; far.addresses().is_none() && far.key().is_none());
+    far.folder().expect(rt, "a folder")
+}
+
+fn folders(rt: &impl Abort, plan: &Plan) {
+    for (id, destination, limit, most) in &FOLDER_OF {
+        let incoming = folder_of(rt, plan.peer(PeerId(*id)));
+        expect!(rt; incoming.destination.unwrap_or(0) == *destination, *id as u64);
+        expect!(rt; incoming.limit.unwrap_or(0) == *limit, *id as u64);
+        expect!(rt; folder_of(rt, plan.hop(HopId(*id))).most == *most, *id as u64);
+    }
+    expect!(rt; folder_of(rt, plan.peer(PeerId(2))).path.path() == "/srv/in");
+    expect!(rt; folder_of(rt, plan.hop(HopId(1))).path.path() == "out");
+}
+
+#[test]
+fn a_folder_has_its_numbers(rt: HostRuntime) {
+    folders(
+        &rt,
+        &Plan::from_toml(rt.alloc(), FOLDERS).expect(&rt, "no fault"),
     );
 }
 

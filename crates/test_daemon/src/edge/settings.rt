@@ -24,7 +24,7 @@ fn expect_given(rt: &(impl Abort + AllocGlobal), rows: &[Given]) {
 }
 
 /// Each command with only its required arguments.
-const DEFAULTS: [Given; 7] = [
+const DEFAULTS: [Given; 9] = [
     (
         &["rly", "sim"],
         Settings::Sim {
@@ -71,6 +71,25 @@ const DEFAULTS: [Given; 7] = [
             at: None,
         },
     ),
+    (
+        &["rly", "put", "spool"],
+        Settings::Put {
+            folder: "spool",
+            lines: false,
+            destination: None,
+            wait: None,
+        },
+    ),
+    (
+        &["rly", "get", "spool"],
+        Settings::Get {
+            folder: "spool",
+            lines: false,
+            raw: false,
+            count: None,
+            follow: false,
+        },
+    ),
 ];
 
 #[test]
@@ -79,7 +98,7 @@ fn what_is_left_out_is_the_default(rt: HostRuntime) {
 }
 
 /// Options before and after the required arguments, with a blank and with `=`.
-const GIVEN: [Given; 5] = [
+const GIVEN: [Given; 7] = [
     (
         &[
             "rly",
@@ -150,6 +169,33 @@ const GIVEN: [Given; 5] = [
         Settings::Plan {
             plan: "plan.toml",
             at: Some(4_503_599_627_370_495),
+        },
+    ),
+    (
+        &[
+            "rly",
+            "put",
+            "--destination=65535",
+            "spool",
+            "--lines",
+            "--wait",
+            "7",
+        ],
+        Settings::Put {
+            folder: "spool",
+            lines: true,
+            destination: Some(65_535),
+            wait: Some(7),
+        },
+    ),
+    (
+        &["rly", "get", "--raw", "spool", "--follow", "--count=9"],
+        Settings::Get {
+            folder: "spool",
+            lines: false,
+            raw: true,
+            count: Some(9),
+            follow: true,
         },
     ),
 ];

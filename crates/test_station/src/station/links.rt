@@ -3,7 +3,7 @@
 use rly_core::PeerId;
 use rly_link::{Link, MAX_PACKET, Point, Sleep, Turn, Worker};
 use rly_link_udp::{UdpLink, WallClock};
-use rly_plan::Plan;
+use rly_plan::{Addresses, Plan};
 use rly_station::{End, moment_of};
 use std::net::{Net, UdpSocket};
 use std::process::Abort;
@@ -30,6 +30,12 @@ fn plan_of(rt: &(impl Abort + AllocGlobal), listen: &str, remote: &str) -> Plan 
         .expect(rt, "a plan")
 }
 
+/// The addresses of a plan's first peer.
+fn addresses_of<'a>(rt: &impl Abort, plan: &'a Plan) -> &'a Addresses {
+    let peer = plan.peer(PeerId(1)).expect(rt, "peer 1");
+    peer.far.addresses().expect(rt, "a socket")
+}
+
 /// A link that receives on one address and sends to another.
 fn link_of(
     rt: &(impl Abort + Host),
@@ -38,8 +44,7 @@ fn link_of(
     remote: &str,
 ) -> UdpLink<HostRuntime> {
     let plan = plan_of(rt, listen, remote);
-    let neighbour = plan.peer(PeerId(1)).expect(rt, "peer 1");
-    UdpLink::open(rt, clock, &neighbour.addresses)
+    UdpLink::open(rt, clock, addresses_of(rt, &plan))
         .ok()
         .expect(rt, "a link")
 }
@@ -47,8 +52,7 @@ fn link_of(
 /// The end of a link whose address the system refuses.
 fn refused_end(rt: &(impl Abort + Host), clock: HostRuntime, listen: &str, remote: &str) -> End {
     let plan = plan_of(rt, listen, remote);
-    let neighbour = plan.peer(PeerId(1)).expect(rt, "peer 1");
-    let fault = UdpLink::open(rt, clock, &neighbour.addresses)
+    let fault = UdpLink::open(rt, clock, addresses_of(rt, &plan))
         .err()
         .expect(rt, "a fault");
     fault.end

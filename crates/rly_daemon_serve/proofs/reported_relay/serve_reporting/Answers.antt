@@ -4,11 +4,11 @@ use Rattle.std.proofs.Common.{◌+◌, ◌∙◌, length, refl, sym}
 use Rattle.std.proofs.lemmas.Bool.{and_parts}
 use Rattle.rly_daemon_serve.specs.WallReportClock.{due_moments}
 use Rattle.rly_daemon_serve.proofs.Endless.{and_one, below_255, both_then, has_run, ok_then, on_ok, posts_are, posts_between, run_ends}
-use Rattle.rly_link_udp.proofs.Sending.{neighbour_send}
+use Rattle.rly_posts.proofs.Sending.{neighbour_send}
 use Rattle.rly_daemon_serve.proofs.Tallied.{tallied_send}
 use Rattle.rly_daemon_serve.proofs.ClockStart.{told_from}
 use Rattle.rly_daemon_serve.proofs.Outcomes.{well_is_complete}
-use Rattle.rly_link_udp.specs.Duties.{duty_over}
+use Rattle.rly_posts.specs.Duties.{duty_over}
 use Rattle.rly_station.specs.Workers.{workers_of}
 use Rattle.rly_hop.specs.Spelling.{longest_message}
 use Rattle.rly_daemon_reporter.specs.TalliedLink.{link_below}

@@ -3,8 +3,8 @@ use denote.Param.Send.{arg_send, param_send, param_sync, shr_send}
 use Rattle.std.proofs.Common.{◌∙◌, length, sym}
 use Rattle.rly_daemon_serve.proofs.Endless.{and_none, below_256, both_then, has_run, ok_then, on_ok, posts_are, posts_between, run_ends}
 use Rattle.rly_daemon_serve.proofs.Outcomes.{well_is_complete}
-use Rattle.rly_link_udp.proofs.Sending.{neighbour_send}
-use Rattle.rly_link_udp.specs.Duties.{duty_at}
+use Rattle.rly_posts.proofs.Sending.{neighbour_send}
+use Rattle.rly_posts.specs.Duties.{duty_at}
 use Rattle.rly_station.specs.Workers.{workers_of}
 use Rattle.rly_hop.specs.Spelling.{longest_message}
 use Rattle.rly_daemon_serve.proofs.served_relay.serve.Goals as goal

@@ -1,0 +1,4 @@
+pub mod FolderCommands
+pub mod HelpersInput
+pub mod Input
+pub mod Looks

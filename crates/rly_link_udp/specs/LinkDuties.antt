@@ -1,0 +1,78 @@
+-- The duty of a worker's link to a socket, and of its clock.
+use Rattle.std.specs.Prelude.{ℕ, ◌==◌, nat_lt, if◌then◌else◌, Bool, false, is_some, option_and_then, Option, None, Some}
+use Rattle.std.specs.Option.{option_map}
+use Rattle.rly_plan_syntax.specs.Endpoints.{Endpoints}
+use Rattle.rly_hop.specs.declared.message.StationId.{StationId}
+use Rattle.rly_link.specs.declared.turn.Worker.{Worker}
+use Rattle.rly_link.specs.declared.turn.Worker.TheVariants as worker
+use Rattle.rly_link_auth.specs.Keys.{Keys}
+use Rattle.rly_link_auth.specs.StationLink.{keys_over, link_below}
+use Rattle.rly_link_udp.specs.LinkReorder.{reorder_for}
+use Rattle.rly_station.specs.Warnings.{KnownFailures, known_of, none_yet}
+use Rattle.rly_station.specs.declared.warning.SystemCall.TheVariants.{Send}
+use Rattle.rly_link_udp.specs.declared.clock_watch.Reading.{Reading}
+use Rattle.rly_link_udp.specs.declared.link_reorder.LinkReorder.{LinkReorder}
+use Rattle.rly_link_udp.specs.declared.socket_link.SocketLink.{SocketLink}
+use Rattle.rly_link_udp.specs.declared.udp_link.UdpLink.{UdpLink}
+use Rattle.rly_link_udp.specs.declared.wall_clock.WallClock.{WallClock}
+
+-- the receiver of the first peer
+abbrev pub is_first : Worker → Bool
+is_first (worker.Receiver peer) = peer.0 == 1
+is_first (worker.Sender hop) = false
+
+-- The longest wait of a worker at a socket, in microseconds, if it has one: ten milliseconds if its turns are bounded, and
+-- else a second if it watches the wall clock.
+abbrev pub longest_wait : Worker → ℕ → Option ℕ
+longest_wait w turns = if nat_lt 0 turns then Some 10000 else (if is_first w then Some 1000000 else None)
+
+-- and of one at a folder, which watches that
+abbrev pub longest_rest : ℕ → ℕ
+longest_rest turns = if nat_lt 0 turns then 10000 else 1000000
+
+-- the addresses at which a link was opened: none of a bell
+abbrev pub link_addresses : {C : Type 0} → UdpLink C → Option Endpoints
+link_addresses link = option_map (λ a. a.value) link.addresses
+
+-- a link at a socket: its addresses, keys and reorder buffer, its failed sends so far, and the owner of its wrong tags
+pub record SocketDuty : Type 0 where
+  pub addresses : Option Endpoints
+  pub keys : Option Keys
+  pub keeps : LinkReorder
+  pub failures : Option KnownFailures
+  pub tags : Worker
+
+abbrev pub reorder_of_link : {C : Type 0} → SocketLink C → LinkReorder
+reorder_of_link l = record { own = l.link.own; peer = l.link.peer; early = l.link.early }
+
+abbrev pub socket_duty : {C : Type 0} → SocketLink C → SocketDuty
+socket_duty l = record {
+  addresses = link_addresses (link_below l.link.link);
+  keys = keys_over l.link.link;
+  keeps = reorder_of_link l;
+  failures = option_map known_of (link_below l.link.link).failed_sends;
+  tags = l.wrong_tags.worker;
+}
+
+-- of a worker of one station whose neighbour is another, at these addresses, with the key if there is one, and this maximum
+-- length of a buffered packet: it warns of its own link
+abbrev pub socket_duty_of : Worker → (own peer : StationId) → Endpoints → Option Keys → (longest : ℕ) → SocketDuty
+socket_duty_of w own peer addresses keys longest = record {
+  addresses = Some addresses;
+  keys = keys;
+  keeps = reorder_for own peer longest w;
+  failures = Some (none_yet (Send w));
+  tags = w;
+}
+
+-- whether a clock watches the wall clock, with the last readings
+pub record ClockDuty : Type 0 where
+  pub watches : Bool
+  pub before : Option Reading
+
+abbrev pub clock_duty : {C : Type 0} → WallClock C → ClockDuty
+clock_duty turn = record { watches = is_some turn.watch; before = option_and_then (λ w. w.before) turn.watch }
+
+-- the receiver of the first peer watches it
+abbrev pub clock_duty_of : Worker → ClockDuty
+clock_duty_of w = record { watches = is_first w; before = None }

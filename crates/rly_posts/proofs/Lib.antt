@@ -1,0 +1,3 @@
+pub mod CountedPosts
+pub mod SoundNeighbours
+pub mod Sending

@@ -1,0 +1,4 @@
+pub mod FolderLog
+pub mod Folders
+pub mod Neighbour
+pub mod Duties

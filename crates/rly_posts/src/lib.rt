@@ -1,0 +1,23 @@
+//! The posts of a plan's workers: each with its link, its clock and its waker.
+//!
+//! `posts_of` opens the link that the plan names for each worker (`specs/Duties.antt`): a socket of
+//! `rly_link_udp`, or a folder of `rly_folder_file` that plays the neighbour by `rly_link_folder`,
+//! locked, with a bell whose address stands in its `.wake`. It logs the first socket whose receive
+//! buffer is too small. `NeighbourLink` is a link of either kind (`specs/Neighbour.antt`). Callers:
+//! `rly_daemon_serve` and `rly_daemon`.
+#![tactic(auto)]
+
+mod admission;
+mod folder_log;
+mod folder_words;
+mod incoming_link;
+mod neighbour_link;
+mod open_folder;
+mod outgoing_link;
+mod posts;
+mod wake_file;
+
+pub use crate::incoming_link::IncomingLink;
+pub use crate::neighbour_link::NeighbourLink;
+pub use crate::outgoing_link::OutgoingLink;
+pub use crate::posts::{UdpPost, posts_of};

@@ -1,0 +1,195 @@
+//! The posts of a plan's workers: each with its link, its clock and its waker.
+
+ghost use Rattle.std.specs.Prelude.{◌≡◌, ◌++◌, IfOk, Some, map, string_bytes};
+ghost use Rattle.rly_plan.specs.Sound.{IsSoundFolder, IsSoundNeighbour, IsSoundPlan};
+ghost use Rattle.rly_hop.specs.Spelling.{IsStation};
+ghost use Rattle.rly_posts.specs.Duties.{duties, duty_at, duty_of, folder_duty_of, link_duty, link_duty_at};
+ghost use Rattle.rly_posts.specs.Neighbour.{buffer_of};
+ghost use Rattle.rly_station.specs.ReceiveBuffers.{buffer_warnings, wanted_buffer};
+ghost use Rattle.rly_station.specs.Warnings.{logged_warnings};
+
+use crate::incoming_link::incoming_link_of;
+use crate::neighbour_link::NeighbourLink;
+use crate::outgoing_link::outgoing_link_of;
+use rly_hop::StationId;
+use rly_link::{Post, Worker};
+use rly_link_udp::{SenderWaker, Signals, WallClock, clock_of, socket_link_of};
+use rly_plan::{FarEnd, FolderEnd, Neighbour, Plan};
+use rly_station::{
+    ErrorLines, KeyedWorker, Logger, PlanKeys, ServeFault, buffer_warning, neighbour_of,
+    wanted_buffer,
+};
+use std::alloc::{AllocError, Global};
+use std::fs::{File, Files};
+use std::net::Net;
+use std::sync::Arc;
+use std::time::Clock;
+
+/// A worker of the relay, its link, its clock and its waker.
+pub type UdpPost<'a, H> = Post<NeighbourLink<&'a H>, WallClock<&'a H>, SenderWaker>;
+
+/// The workers of a plan, each with its clock and its link, which carries messages of at most `longest` bytes. They
+/// log their warnings on the lines. With them comes a waker that ends the waits of all.
+pub fn posts_of<'a, H: AllocGlobal + Files<File = File> + Clock + Net>(
+    rt: &'a H,
+    plan: &Plan,
+    keys: PlanKeys<'_>,
+    longest: usize,
+    turns: u64,
+    lines: Arc<ErrorLines, Global>,
+) -> Result<(Vec<UdpPost<'a, H>>, SenderWaker), ServeFault>
+    requires { IsSoundPlan plan.now }
+    ensures { IfOk result (λ posts. map duty_at posts.0.items ≡ duties plan.now keys.entry longest turns) }
+{
+    let signals = Signals::open(rt.alloc(), plan, lines)?;
+    let posts = shared_posts(rt, plan, keys, longest, turns, &signals)?;
+    let mut teller = signals.logger()?;
+    warn_of_buffers(posts.as_slice(), longest, &mut teller);
+    let bell = signals.waker()?;
+    Ok((posts, bell))
+}
+
+/// The same, for workers that share these signals.
+fn shared_posts<'a, H: AllocGlobal + Files<File = File> + Clock + Net>(
+    rt: &'a H,
+    plan: &Plan,
+    keys: PlanKeys<'_>,
+    longest: usize,
+    turns: u64,
+    signals: &Signals,
+) -> Result<Vec<UdpPost<'a, H>>, ServeFault>
+    requires { IsSoundPlan plan.now }
+    ensures { IfOk result (λ posts. map duty_at posts.items ≡ duties plan.now keys.entry longest turns) }
+{
+    let mut posts = Vec::new(rt.alloc());
+    for link in keys.into_links() {
+        let post = post_of(rt, plan, link, longest, turns, signals)?;
+        if posts.push(post).is_err() {
+            return Err(AllocError.into());
+        }
+    }
+    Ok(posts)
+}
+
+/// A worker of a plan, with its link, its clock and its waker. The waker has the bells of all workers, and the link has that
+/// of its own worker. Warnings go to the lines. A worker whose neighbour isn't in the plan has no link.
+fn post_of<'a, H: AllocGlobal + Files<File = File> + Clock + Net>(
+    rt: &'a H,
+    plan: &Plan,
+    keyed: KeyedWorker<'_>,
+    longest: usize,
+    turns: u64,
+    signals: &Signals,
+) -> Result<UdpPost<'a, H>, ServeFault>
+    requires { IsSoundPlan plan.now }
+    ensures { IfOk result (λ post. duty_at post ≡ duty_of plan.now longest turns keyed.entry) }
+{
+    let worker = keyed.worker;
+    let Some(neighbour) = neighbour_of(plan, worker) else {
+        return Err(ServeFault::Worker);
+    };
+    let link = link_of(rt, plan, neighbour, keyed, longest, turns, signals)?;
+    let turn = clock_of(rt, worker, turns, signals)?;
+    let waker = signals.waker()?;
+    Ok(Post {
+        worker,
+        link,
+        turn,
+        waker,
+    })
+}
+
+/// The link of a worker to its neighbour: a socket, which is sealed if there is a key, or a folder.
+fn link_of<'a, H: AllocGlobal + Files<File = File> + Clock + Net>(
+    rt: &'a H,
+    plan: &Plan,
+    neighbour: &Neighbour,
+    keyed: KeyedWorker<'_>,
+    longest: usize,
+    turns: u64,
+    signals: &Signals,
+) -> Result<NeighbourLink<&'a H>, ServeFault>
+    requires sound { IsSoundPlan plan.now }
+    requires neighbour { IsSoundNeighbour neighbour.now }
+    ensures { IfOk result (λ link. Some (link_duty link) ≡ link_duty_at plan.now longest turns keyed.entry neighbour.now) }
+{
+    let KeyedWorker {
+        worker,
+        key,
+        folder,
+    } = keyed;
+    let own = StationId(plan.station());
+    let peer = StationId(neighbour.station);
+    match (&neighbour.far, folder) {
+        (FarEnd::Socket(socket), _) => {
+            let key = key.map(|key| key.into_key());
+            let link = socket_link_of(
+                rt,
+                own,
+                peer,
+                worker,
+                &socket.addresses,
+                key,
+                longest,
+                turns,
+                signals,
+            )?;
+            Ok(NeighbourLink::Socket(link))
+        }
+        (FarEnd::Folder(end), Some(path)) => folder_link_of(
+            rt, plan, peer, end, worker, path, longest, turns, signals,
+        ),
+        (FarEnd::Folder(_), None) => Err(ServeFault::Worker),
+    }
+}
+
+/// The link of a worker to a folder that plays station `peer`.
+fn folder_link_of<'a, H: AllocGlobal + Files<File = File> + Clock + Net>(
+    rt: &'a H,
+    plan: &Plan,
+    peer: StationId,
+    end: &FolderEnd,
+    worker: Worker,
+    path: String,
+    longest: usize,
+    turns: u64,
+    signals: &Signals,
+) -> Result<NeighbourLink<&'a H>, ServeFault>
+    requires sound { IsSoundPlan plan.now }
+    requires station { IsStation peer }
+    requires folder { IsSoundFolder end.now }
+    ensures { IfOk result
+        (λ link. link_duty link ≡ folder_duty_of plan.now longest turns worker peer end.now (string_bytes path)) }
+{
+    match worker {
+        Worker::Receiver(_) => {
+            let link = incoming_link_of(
+                rt, plan, peer, end, worker, path, longest, turns, signals,
+            )?;
+            Ok(NeighbourLink::Incoming(link))
+        }
+        Worker::Sender(_) => {
+            let link = outgoing_link_of(rt, plan, peer, end, worker, path, turns, signals)?;
+            Ok(NeighbourLink::Outgoing(link))
+        }
+    }
+}
+
+/// Logs the first of these links whose receive buffer is smaller than it wants. All want the same, and the system has
+/// one limit.
+fn warn_of_buffers<H: AllocGlobal + Files<File = File> + Clock>(
+    posts: &[UdpPost<'_, H>],
+    longest: usize,
+    teller: &mut Logger,
+)
+    ensures { logged_warnings teller.new ≡ logged_warnings teller.old
+        ++ buffer_warnings (wanted_buffer longest) (map (λ post. buffer_of post.link) posts.now) }
+{
+    let wanted = wanted_buffer(longest);
+    for post in posts {
+        if let Some(warning) = buffer_warning(wanted, post.link.receive_buffer()) {
+            teller.log(warning);
+            return;
+        }
+    }
+}

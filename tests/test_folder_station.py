@@ -1,0 +1,255 @@
+"""`rly serve` with folders as neighbours: files in, files out."""
+import os
+import select
+import socket
+import time
+
+from program import SECONDS, Rows
+
+# Station 7, with a folder that plays station 3 upstream, and one that plays station 9 as the next hop.
+PLAN = """station = 7
+[[peer]]
+id = 1
+station = 3
+folder = "in"
+[[hop]]
+id = 1
+station = 9
+folder = "out"
+contacts = [[0, 4000000000000000]]
+[[route]]
+destination = 12
+hop = 1
+"""
+
+# What is told at the start on a new small device.
+SERVED = b"rly: serving station 7, 1 peers, 1 hops, device 320772 bytes, 0 of 16 live\n"
+
+# The longest time in which a station looks at a folder again, and some for a busy machine.
+LATEST = 4.0
+
+
+class Folders(Rows):
+    """Tests of a station whose plan names the folders `in` and `out` beside it."""
+
+    def setUp(self):
+        super().setUp()
+        for name in ("in", "out"):
+            os.mkdir(self.path(name))
+        self.write("plan", PLAN)
+        self.make_small("device")
+
+    def serve(self, *words):
+        """A relay that has told what it serves."""
+        run = self.start("serve", "device", "plan", *words)
+        self.assertEqual(run.stderr.readline(), SERVED)
+        return run
+
+    def put(self, number, payload, folder="in"):
+        """Puts a file into a folder as any program may: hidden first, then under its name."""
+        hidden = self.write(f"{folder}/.own", payload)
+        os.rename(hidden, self.path(f"{folder}/new/{number:020}"))
+
+    def wake(self, folder="in"):
+        """Sends an empty packet to the address in a folder's `.wake`."""
+        host, port = self.read(f"{folder}/.wake").decode().strip().split(":")
+        with socket.socket(socket.AF_INET, socket.SOCK_DGRAM) as end:
+            end.sendto(b"", (host, int(port)))
+
+    def names(self, folder):
+        return sorted(name for name in os.listdir(self.path(folder)) if not name.startswith("."))
+
+    def wait_for(self, is_so, seconds=SECONDS):
+        """Waits until something is so, and returns how long that took."""
+        began = time.monotonic()
+        while not is_so():
+            self.assertLess(time.monotonic() - began, seconds, "it didn't come")
+            time.sleep(0.005)
+        return time.monotonic() - began
+
+    def expect_files(self, folder, payloads, seconds=SECONDS):
+        """Waits for files under the numbers from 1 on, and compares their bytes."""
+        wanted = [f"{number:020}" for number in range(1, len(payloads) + 1)]
+        took = self.wait_for(lambda: self.names(folder) == wanted, seconds)
+        self.assertEqual([self.read(f"{folder}/{name}") for name in wanted], payloads)
+        return took
+
+    def told(self, run):
+        """The next line of a relay's log."""
+        ready, _, _ = select.select([run.stderr], [], [], SECONDS)
+        self.assertTrue(ready, "no line came")
+        return run.stderr.readline()
+
+
+class Served(Folders):
+    def test_a_file_goes_through(self):
+        """A file that is put while nobody serves, and one while it is served, come out in order, and nothing stays behind."""
+        self.rly("serve", "device", "plan", "--turns=1")
+        self.put(1, b"\0\x0cfirst")
+        self.serve()
+        self.expect_files("out/out", [b"\0\x0cfirst"], LATEST)
+        self.put(2, b"\0\x0csecond")
+        self.expect_files("out/out", [b"\0\x0cfirst", b"\0\x0csecond"], LATEST)
+        self.wait_for(lambda: self.names("in/new") + self.names("in/sent") == [])
+        self.assertEqual(self.names("in/refused"), [])
+
+    def test_a_packet_to_its_address_wakes_it(self):
+        """A station looks at once where it is told to, and not only after a second."""
+        self.serve()
+        payloads, took = [], []
+        for number in range(1, 6):
+            time.sleep(0.2)
+            payloads.append(b"\0\x0c%d" % number)
+            self.put(number, payloads[-1])
+            self.wake()
+            took.append(self.expect_files("out/out", payloads, LATEST))
+        self.assertLess(sorted(took)[2], 0.5)
+
+    def test_files_are_made_of_the_plan(self):
+        """Files get the destination and the age limit of the plan, and a folder that is full takes the rest once it is read."""
+        plan = PLAN.replace('"in"\n', '"in"\ndestination = 12\nlimit = 60000\n').replace('"out"\n', '"out"\nmost = 2\n')
+        self.write("plan", plan)
+        self.serve()
+        for number in range(1, 4):
+            self.put(number, b"%d" % number)
+        self.wake()
+        self.expect_files("out/out", [b"\0\x0c1", b"\0\x0c2"], LATEST)
+        self.wait_for(lambda: self.names("in/new") + self.names("in/sent") == [])
+        self.assertEqual(len(self.names("out/out")), 2)
+        for name in self.names("out/out"):
+            os.remove(self.path(f"out/out/{name}"))
+        self.wake("out")
+        self.wait_for(lambda: self.names("out/out") == [f"{3:020}"], LATEST)
+        self.assertEqual(self.read(f"out/out/{3:020}"), b"\0\x0c3")
+
+    def test_one_folder_may_play_both(self):
+        """A peer and a hop may share a folder: the lock is of each."""
+        self.write("plan", PLAN.replace('"out"', '"in"'))
+        self.serve()
+        self.put(1, b"\0\x0cround")
+        self.expect_files("in/out", [b"\0\x0cround"], LATEST)
+
+    def test_files_that_no_station_takes_go_aside(self):
+        """Files without a route, too short or too long are moved aside, and the file after them goes on."""
+        self.serve()
+        for number, payload in enumerate([b"\0\x0d-", b"\0", b"\0\x0c" + bytes(5_000), b"\0\x0cgood"], 1):
+            self.put(number, payload)
+        self.expect_files("out/out", [b"\0\x0cgood"], LATEST)
+        wanted = [f"{1:020}.{reason}" for reason in ("no-route", "too-long", "too-short")]
+        self.assertEqual(self.names("in/refused"), wanted)
+
+    def test_hidden_files_of_killed_programs_go(self):
+        """A start removes what a killed put left more than a day ago, and nothing else."""
+        for name, age in ((".put-1-1", 90_000), (".put-2-2", 80_000), (".other", 90_000)):
+            path = self.write(f"in/{name}", b"")
+            then = time.time() - age
+            os.utime(path, (then, then))
+        self.serve()
+        there = os.listdir(self.path("in"))
+        self.assertEqual([name in there for name in (".put-1-1", ".put-2-2", ".other")], [False, True, True])
+
+    def test_what_was_in_flight_at_a_kill_comes_once(self):
+        """A station that is killed at any moment hands out each file once, in order, after it was started anew."""
+        payloads = []
+        for number in range(1, 13):
+            run = self.start("serve", "device", "plan")
+            self.assertIn(b"rly: serving", run.stderr.readline())
+            payloads.append(b"\0\x0c%d" % number)
+            self.put(number, payloads[-1])
+            self.wake()
+            time.sleep(0.003 * number)
+            run.kill()
+            run.wait()
+        self.start("serve", "device", "plan")
+        self.expect_files("out/out", payloads)
+
+
+class Refused(Folders):
+    """Folders that can't play a neighbour: a relay of a turn ends with a message."""
+
+    def expect_end(self, errors):
+        self.expect("serve", "device", "plan", "--turns=1", errors=f"rly: folder failed\nrly: {errors}\n", status=1)
+
+    def test_a_folder_has_to_be_one(self):
+        os.rmdir(self.path("in"))
+        self.expect_end("peer 1: folder in: No such file or directory (os error 2)")
+        self.write("in", "")
+        self.expect_end("peer 1: folder in: not a folder")
+        os.remove(self.path("in"))
+        os.mkdir(self.path("in"))
+        os.rmdir(self.path("out"))
+        self.expect_end("hop 1: folder out: No such file or directory (os error 2)")
+
+    def test_a_path_begins_at_the_plan(self):
+        os.mkdir(self.path("etc"))
+        os.rename(self.path("plan"), self.path("etc/plan"))
+        run = self.rly("serve", "device", "etc/plan", "--turns=1")
+        self.assertIn(b"rly: peer 1: folder etc/in: No such file or directory (os error 2)\n", run.stderr)
+        self.write("etc/plan", PLAN.replace('"in"', f'"{self.path("in")}"').replace('"out"', f'"{self.path("out")}"'))
+        self.expect("serve", "device", "etc/plan", "--turns=1", errors=SERVED + b"rly: ended after 1 turns\n")
+
+    def test_a_folder_has_one_station(self):
+        """A second station is refused while the first serves, and no longer after its end."""
+        run = self.serve()
+        self.rly("format", "other", "--hops=1", "--peers=1", "--items=16", "--bytes=4096")
+        second = self.rly("serve", "other", "plan", "--turns=1")
+        wanted = b"rly: folder failed\nrly: peer 1: folder in: locked by another process\n"
+        self.assertEqual((second.returncode, second.stderr), (1, wanted))
+        run.kill()
+        run.wait()
+        self.expect("serve", "device", "plan", "--turns=1", errors=SERVED + b"rly: ended after 1 turns\n")
+
+    def test_two_peers_of_one_folder_are_refused(self):
+        second = PLAN[PLAN.index("[[peer]]") : PLAN.index("[[hop]]")].replace("id = 1", "id = 2").replace("= 3", "= 4")
+        self.write("plan", PLAN.replace("[[hop]]", f"{second}[[hop]]"))
+        self.rly("format", "device", "--force", "--hops=1", "--peers=2", "--items=16", "--bytes=4096")
+        self.expect_end("peer 2: folder in: locked by another process")
+
+
+class Warned(Folders):
+    """What a station tells of its folders while it serves."""
+
+    def test_a_foreign_name_is_told_once(self):
+        run = self.serve()
+        self.write("in/new/note.txt", "")
+        self.wake()
+        self.assertEqual(self.told(run), b"rly: peer 1: foreign name in the folder ignored\n")
+        self.write("in/new/again.txt", "")
+        self.put(1, b"\0\x0cgood")
+        self.expect_files("out/out", [b"\0\x0cgood"], LATEST)
+        self.assertEqual(select.select([run.stderr], [], [], 0)[0], [])
+
+    def test_numbers_that_do_not_go_on_are_told(self):
+        """Numbered files of another device are left alone; put back as told, they go out."""
+        self.rly("serve", "device", "plan", "--turns=1")
+        for number in (5, 6):
+            self.write(f"in/sent/{number:020}", b"\0\x0c%d" % number)
+        run = self.serve()
+        wanted = b"rly: peer 1: sent has 5 to 6, not from 0: mv -n sent/* new\n"
+        self.assertEqual(self.told(run), wanted)
+        self.put(7, b"\0\x0c7")
+        self.wake()
+        time.sleep(0.3)
+        self.assertEqual((self.names("in/new"), self.names("in/sent")), ([f"{7:020}"], [f"{5:020}", f"{6:020}"]))
+        run.kill()
+        run.wait()
+        for name in self.names("in/sent"):
+            os.rename(self.path(f"in/sent/{name}"), self.path(f"in/new/{name}"))
+        self.serve()
+        self.expect_files("out/out", [b"\0\x0c5", b"\0\x0c6", b"\0\x0c7"], LATEST)
+
+    def test_a_plan_without_routes_gives_nothing(self):
+        self.write("plan", PLAN[: PLAN.index("[[route]]")])
+        run = self.serve()
+        self.assertEqual(self.told(run), b"rly: peer 1: last number refused (2)\n")
+
+    def test_a_failed_call_is_told(self):
+        """A sub-folder that is gone while the station serves is told of, and found again once it is back."""
+        run = self.serve()
+        os.rename(self.path("in/new"), self.path("in/gone"))
+        self.wake()
+        wanted = b"rly: peer 1: folder call failed (1 so far): No such file or directory (os error 2)\n"
+        self.assertEqual(self.told(run), wanted)
+        os.rename(self.path("in/gone"), self.path("in/new"))
+        self.put(1, b"\0\x0cback")
+        self.expect_files("out/out", [b"\0\x0cback"], 2 * LATEST)
