@@ -1,9 +1,7 @@
 -- The neighbour station of a hop, played by a folder: its answers to packets.
 use Rattle.std.specs.Prelude.{◌≡◌, ◌≢◌, ◌⊎◌, ◌≤◌, ◌+◌, ◌&&◌, ◌==◌, ℕ, Bool, true, false, if◌then◌else◌, List, Option, None, Some, is_some, ⊤}
 use Rattle.std.specs.Option.{option_map}
-use Rattle.rly_folder.specs.FolderCalls.{Faulted, ListNames, Makes}
 use Rattle.rly_folder.specs.FolderModel.{FolderState}
-use Rattle.rly_folder.specs.declared.name.Area.TheVariants.{Out}
 use Rattle.rly_hop.specs.declared.message.Message.{Message}
 use Rattle.rly_hop.specs.declared.message.Message.TheVariants as message
 use Rattle.rly_hop.specs.declared.receiving.event.InAction.{InAction}
@@ -14,8 +12,8 @@ use Rattle.rly_hop.specs.Receiver.{Receiver}
 use Rattle.rly_hop.specs.Receiving.{take_reply}
 use Rattle.rly_hop.specs.Spelling.{spelling}
 use Rattle.rly_link.specs.LinkHistory.{message_in}
-use Rattle.rly_link_folder.specs.Outbox.{Takes, folder_of, greatest_after, greatest_of, most_of}
-use Rattle.rly_link_folder.specs.OutboxCalls.{HasRoom}
+use Rattle.rly_link_folder.specs.Outbox.{FindsRoom, Takes, folder_of, greatest_after, greatest_of, most_of, spare_of}
+use Rattle.rly_link_folder.specs.OutboxCalls.{FailsToList}
 use Rattle.rly_link_folder.specs.declared.hop_neighbour.Replies.{Replies}
 use Rattle.rly_link_folder.specs.declared.outbox.Outbox.{Outbox}
 
@@ -38,7 +36,8 @@ data_of r (Some (message.Heard from to last bits)) = None
 pub record Answers {F : Type 0} (state : F → FolderState) (number : ℕ) (payload : List ℕ) (given : TakeAnswer) (old new : Outbox F)
     : Type 0 where
   pub next : number ≡ greatest_of old + 1
-      → Takes state (most_of old) (greatest_of old) number payload given (folder_of old) (folder_of new)
+      → Takes state (most_of old) (spare_of old) (spare_of new) (greatest_of old) number payload given
+      (folder_of old) (folder_of new)
   pub other : number ≢ greatest_of old + 1 → given ≡ answer.Already (greatest_of old)
   pub untouched : number ≢ greatest_of old + 1 → new ≡ old
   pub greatest : greatest_of new ≡ greatest_after (greatest_of old) number given
@@ -87,7 +86,7 @@ abbrev pub after_reply : Replies → Replies
 after_reply replies =
     record { custody = if is_some replies.refused then replies.custody else None; refused = None; full = replies.full }
 
--- the folder was listed, and these messages wait then
+-- these messages wait after a look for room
 pub record IsListed {F : Type 0} (replies : Replies) (old new : Neighbour F) : Type 0 where
   pub greatest : greatest_of new.outbox ≡ greatest_of old.outbox
   pub most : most_of new.outbox ≡ most_of old.outbox
@@ -98,10 +97,11 @@ pub record IsListed {F : Type 0} (replies : Replies) (old new : Neighbour F) : T
 abbrev pub OffersIf : Bool → {F : Type 0} → (F → FolderState) → Neighbour F → Neighbour F → Type 0
 OffersIf false state old new = new ≡ old
 OffersIf true state old new =
-    (HasRoom state (most_of old.outbox) true (folder_of old.outbox) (folder_of new.outbox)
+    (FindsRoom state old.outbox new.outbox × (1 ≤ spare_of new.outbox)
     × IsListed (with_custody old.replies (greatest_of old.outbox)) old new)
-    ⊎ (HasRoom state (most_of old.outbox) false (folder_of old.outbox) (folder_of new.outbox) × IsListed old.replies old new)
-    ⊎ (Makes state (ListNames Out) Faulted (folder_of old.outbox) (folder_of new.outbox) × IsListed old.replies old new)
+    ⊎ (FindsRoom state old.outbox new.outbox × (spare_of new.outbox ≡ 0) × IsListed old.replies old new)
+    ⊎ (FailsToList state (spare_of old.outbox) (folder_of old.outbox) (folder_of new.outbox)
+    × (spare_of new.outbox ≡ 0) × IsListed old.replies old new)
 
 abbrev pub Offers : {F : Type 0} → (F → FolderState) → Neighbour F → Neighbour F → Type 0
 Offers state old new = OffersIf old.replies.full state old new

@@ -1,5 +1,5 @@
 -- The calls that make a datagram a file, in their order.
-use Rattle.std.specs.Prelude.{◌≡◌, ◌⊎◌, ◌≤◌, ◌<◌, ◌-◌, ℕ, Bool, true, false, if◌then◌else◌, nat_lt, List, [], ◌∷◌, ◌++◌, get_or, length}
+use Rattle.std.specs.Prelude.{◌≡◌, ◌⊎◌, ◌≤◌, ◌<◌, ◌-◌, ℕ, Bool, true, false, if◌then◌else◌, List, [], ◌∷◌, ◌++◌, get_or, length}
 use Rattle.rly_folder.specs.FolderCalls.{Did, Faulted, Link, ListNames, Makes, Outcome, Refrained, Rename, Sync, WriteHidden}
 use Rattle.rly_folder.specs.FolderModel.{FolderState, IsListing}
 use Rattle.rly_folder.specs.Names.{name_of}
@@ -42,12 +42,21 @@ pub record HandsOut {D : Type 0} (state : D → FolderState) (greatest number : 
   pub keeping : IsKeeping greatest number steps
   pub makes : MakesEach state (putting payload (name_of Out number) linked ++ steps) whole old new
 
--- the files handed out were listed, and there were fewer than `most`, or not
-pub record HasRoom {D : Type 0} (state : D → FolderState) (most : ℕ) (room : Bool) (old new : D) : Type 0 where
+-- the files handed out were listed: so many may be added until there are `most`
+pub record ListsRoom {D : Type 0} (state : D → FolderState) (most left : ℕ) (old new : D) : Type 0 where
   pub makes : Makes state (ListNames Out) Did old new
   pub numbers : List ℕ
   pub listing : (state old).honest → IsListing Out (state new).seen.files numbers
-  pub fewer : room ≡ nat_lt (length numbers) most
+  pub difference : left ≡ most - length numbers
+
+-- so many files may be added: those of the last listing that are left, or, once none is, those of a new one
+abbrev pub HasRoom : {D : Type 0} → (D → FolderState) → (most spare left : ℕ) → D → D → Type 0
+HasRoom state most spare left old new =
+    ((1 ≤ spare) × (left ≡ spare) × (new ≡ old)) ⊎ ((spare ≡ 0) × ListsRoom state most left old new)
+
+-- none was left of the last listing, and a new one failed
+abbrev pub FailsToList : {D : Type 0} → (D → FolderState) → (spare : ℕ) → D → D → Type 0
+FailsToList state spare old new = (spare ≡ 0) × Makes state (ListNames Out) Faulted old new
 
 -- an area was listed, and this is its greatest number, 0 if it has no file
 pub record Finds {D : Type 0} (state : D → FolderState) (area : Area) (greatest : ℕ) (old new : D) : Type 0 where

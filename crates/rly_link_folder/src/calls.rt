@@ -3,7 +3,7 @@
 ghost use Rattle.std.specs.Prelude.{◌≡◌, ◌-◌, Bool, IfOk, OnErr, OnOk, false, get_or, is_ok, length, true};
 ghost use Rattle.rly_folder.specs.FolderCalls.{Faulted, ListNames, Makes};
 ghost use Rattle.rly_folder.specs.declared.name.Area.TheVariants.{Out};
-ghost use Rattle.rly_link_folder.specs.OutboxCalls.{FailsToOpen, Finds, HandsOut, HasRoom, Keeps, Opens, putting};
+ghost use Rattle.rly_link_folder.specs.OutboxCalls.{FailsToList, FailsToOpen, Finds, HandsOut, HasRoom, Keeps, Opens, putting};
 ghost use Rattle.rly_link_folder.specs.Script.{MakesEach};
 
 use rly_folder::{Area, Folder, FolderFault, Name};
@@ -43,13 +43,17 @@ pub(crate) fn hand_out<F: Folder>(
     keep(folder, greatest, number)
 }
 
-/// Returns whether fewer than `most` files are handed out now.
-pub(crate) fn has_room<F: Folder>(folder: &mut F, most: u64) -> Result<bool, FolderFault>
-    ensures ok { IfOk result (λ room. HasRoom F.state most room folder.old folder.new) }
-    ensures err { OnErr result (Makes F.state (ListNames Out) Faulted folder.old folder.new) }
+/// Returns how many files may be added until `most` are handed out: as many as are left of the last listing, `spare`, or,
+/// once none is, by a new one.
+pub(crate) fn room_in<F: Folder>(folder: &mut F, most: u64, spare: u64) -> Result<u64, FolderFault>
+    ensures ok { IfOk result (λ left. HasRoom F.state most spare left folder.old folder.new) }
+    ensures err { OnErr result (FailsToList F.state spare folder.old folder.new) }
 {
+    if spare > 0 {
+        return Ok(spare);
+    }
     let numbers = folder.list(Area::Out)?;
-    Ok((numbers.len() as u64) < most)
+    Ok(most.saturating_sub(numbers.len() as u64))
 }
 
 /// The last of these numbers, 0 if there is none.

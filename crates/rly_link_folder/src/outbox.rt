@@ -1,10 +1,8 @@
 // The outgoing half of a folder that plays a neighbour.
-ghost use Rattle.std.specs.Prelude.{◌≡◌, ◌≢◌, ◌+◌, IfErr, IfOk, OnErr};
-ghost use Rattle.rly_folder.specs.FolderCalls.{Faulted, ListNames, Makes};
-ghost use Rattle.rly_folder.specs.declared.name.Area.TheVariants.{Out};
-ghost use Rattle.rly_link_folder.specs.OutboxCalls.{FailsToOpen, HasRoom, Opens};
+ghost use Rattle.std.specs.Prelude.{◌≡◌, ◌≢◌, ◌+◌, IfErr, IfOk, OnErr, nat_lt};
+ghost use Rattle.rly_link_folder.specs.OutboxCalls.{FailsToList, FailsToOpen, Opens};
 
-use crate::calls::{hand_out, has_room, recover};
+use crate::calls::{hand_out, recover, room_in};
 use rly_core::Refusal;
 use rly_folder::{Folder, FolderFault};
 use rly_hop::TakeAnswer;
@@ -16,15 +14,17 @@ pub struct Outbox<F> {
     folder: F,
     greatest: u64,
     most: u64,
+    /// The number of files that may be added before the folder is listed again. Other programs only remove files.
+    spare: u64,
 }
 
 impl<F: Folder> Outbox<F> {
-    ghost use Rattle.rly_link_folder.specs.Outbox.{Takes, folder_of, greatest_after, greatest_of, most_of};
+    ghost use Rattle.rly_link_folder.specs.Outbox.{FindsRoom, Takes, folder_of, greatest_after, greatest_of, most_of, spare_of};
 
     /// Opens a folder to which no more files are added while it has `most`. Returns the folder if a call failed.
     pub fn open(folder: F, most: u64) -> Result<Self, F>
         ensures opens { IfOk result (λ outbox. Opens F.state (greatest_of outbox) folder (folder_of outbox)) }
-        ensures most { IfOk result (λ outbox. most_of outbox ≡ most) }
+        ensures most { IfOk result (λ outbox. (most_of outbox ≡ most) × (spare_of outbox ≡ 0)) }
         ensures fails { IfErr result (λ left. FailsToOpen F.state folder left) }
     {
         let mut folder = folder;
@@ -33,6 +33,7 @@ impl<F: Folder> Outbox<F> {
                 folder,
                 greatest,
                 most,
+                spare: 0,
             }),
             Err(_) => Err(folder),
         }
@@ -43,8 +44,8 @@ impl<F: Folder> Outbox<F> {
     /// Data may come again after each of these. Any other Data is answered by the greatest number.
     pub fn take(&mut self, number: u64, payload: &[u8]) -> TakeAnswer
         ensures next { number ≡ greatest_of self.old + 1
-            → Takes F.state (most_of self.old) (greatest_of self.old) number payload.now result
-            (folder_of self.old) (folder_of self.new) }
+            → Takes F.state (most_of self.old) (spare_of self.old) (spare_of self.new) (greatest_of self.old) number
+            payload.now result (folder_of self.old) (folder_of self.new) }
         ensures other { number ≢ greatest_of self.old + 1 → result ≡ TakeAnswer.Already (greatest_of self.old) }
         ensures untouched { number ≢ greatest_of self.old + 1 → self.new ≡ self.old }
         ensures greatest { greatest_of self.new ≡ greatest_after (greatest_of self.old) number result }
@@ -53,15 +54,20 @@ impl<F: Folder> Outbox<F> {
         if self.greatest.checked_add(1) != Some(number) {
             return TakeAnswer::Already(self.greatest);
         }
-        match has_room(&mut self.folder, self.most) {
-            Ok(true) => match hand_out(&mut self.folder, self.greatest, number, payload) {
+        match room_in(&mut self.folder, self.most, self.spare) {
+            Ok(0) => TakeAnswer::Refused(Refusal::Full),
+            Ok(room) => match hand_out(&mut self.folder, self.greatest, number, payload) {
                 Ok(()) => {
                     self.greatest = number;
+                    self.spare = room - 1;
                     TakeAnswer::Taken
                 }
-                Err(_) => TakeAnswer::Other,
+                // The file may be there, or not.
+                Err(_) => {
+                    self.spare = 0;
+                    TakeAnswer::Other
+                }
             },
-            Ok(false) => TakeAnswer::Refused(Refusal::Full),
             Err(_) => TakeAnswer::Other,
         }
     }
@@ -75,12 +81,14 @@ impl<F: Folder> Outbox<F> {
 
     /// Returns whether a file can be added now: the folder has fewer than `most`.
     pub fn has_room(&mut self) -> Result<bool, FolderFault>
-        ensures ok { IfOk result (λ room. HasRoom F.state (most_of self.old) room (folder_of self.old) (folder_of self.new)) }
-        ensures err { OnErr result (Makes F.state (ListNames Out) Faulted (folder_of self.old) (folder_of self.new)) }
+        ensures ok { IfOk result (λ room. (room ≡ nat_lt 0 (spare_of self.new)) × FindsRoom F.state self.old self.new) }
+        ensures err { OnErr result (FailsToList F.state (spare_of self.old) (folder_of self.old) (folder_of self.new)
+            × (spare_of self.new ≡ 0)) }
         ensures greatest { greatest_of self.new ≡ greatest_of self.old }
         ensures most { most_of self.new ≡ most_of self.old }
     {
-        has_room(&mut self.folder, self.most)
+        self.spare = room_in(&mut self.folder, self.most, self.spare)?;
+        Ok(self.spare > 0)
     }
 
     /// Returns the folder, for a report.
@@ -98,6 +106,7 @@ impl<F: Folder> Outbox<F> {
             folder,
             greatest: _,
             most: _,
+            spare: _,
         } = self;
         folder
     }
