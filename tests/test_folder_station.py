@@ -1,5 +1,6 @@
 """`rly serve` with folders as neighbours: files in, files out."""
 import os
+import random
 import select
 import socket
 import time
@@ -27,6 +28,9 @@ SERVED = b"rly: serving station 7, 1 peers, 1 hops, device 320772 bytes, 0 of 16
 
 # The longest time in which a station looks at a folder again, and some for a busy machine.
 LATEST = 4.0
+
+# The same of a folder that nobody tells it of: its clock is read once a second.
+WATCHED = 2.0
 
 
 class Folders(Rows):
@@ -162,6 +166,110 @@ class Served(Folders):
             run.wait()
         self.start("serve", "device", "plan")
         self.expect_files("out/out", payloads)
+
+
+class Watched(Folders):
+    """Folders that other programs change by plain file calls, without a packet to the address in `.wake`."""
+
+    # Station 7 with a second folder for station 4 upstream, and in place of the first one a socket of station 3.
+    SECOND = '[[peer]]\nid = 2\nstation = 4\nfolder = "more"\n'
+    SOCKET = 'listen = "127.0.0.1:0"\nremote = "127.0.0.1:9"'
+
+    def setUp(self):
+        super().setUp()
+        os.mkdir(self.path("more"))
+        self.rly("format", "device", "--force", "--hops=1", "--peers=2", "--items=64", "--bytes=65536")
+
+    def serve_two(self, first='folder = "in"'):
+        """A relay of two peers, the second a folder, that has been idle for a while."""
+        plan = PLAN.replace("[[hop]]", f"{self.SECOND}[[hop]]").replace('folder = "in"', first)
+        self.write("plan", plan)
+        run = self.start("serve", "device", "plan")
+        self.assertIn(b"rly: serving station 7", run.stderr.readline())
+        # (the first look, a second after the start, wakes all)
+        time.sleep(2.5)
+        return run
+
+    def expect_seen(self, folders):
+        """Files that are put at random moments, each alone, come out within the time of a look and some for the machine."""
+        for number, folder in enumerate(folders, 1):
+            # (the time of the folder is old, or the next look comes a second after the last one anyway)
+            time.sleep(random.uniform(2.0, 3.0))
+            self.put(number, b"\0\x0c%d" % number, folder)
+            self.wait_for(lambda: len(self.names("out/out")) == number, WATCHED)
+
+    def test_each_folder_is_watched(self):
+        self.serve_two()
+        self.expect_seen(["in", "more", "more", "in"])
+
+    def test_a_folder_is_watched_though_the_first_peer_is_a_socket(self):
+        with socket.socket(socket.AF_INET, socket.SOCK_DGRAM) as end:
+            end.bind(("127.0.0.1", 0))
+            port = end.getsockname()[1]
+        self.serve_two(self.SOCKET.replace(":0", f":{port}"))
+        self.expect_seen(["more", "more", "more"])
+
+    def test_two_files_within_a_look_are_both_taken(self):
+        """The second one may leave the folder the same time, if that isn't exact."""
+        self.serve_two()
+        for number in range(1, 31):
+            self.put(number, b"\0\x0c%d" % number, "more")
+            time.sleep(0.1)
+        self.wait_for(lambda: len(self.names("out/out")) == 30, LATEST)
+
+    def test_room_that_nobody_tells_of_is_seen(self):
+        """A hop whose folder was full for a second goes on soon after a reader removed files, and told nobody."""
+        self.write("plan", PLAN.replace('"out"\n', '"out"\nmost = 2\n'))
+        self.rly("format", "device", "--force", "--hops=1", "--peers=1", "--items=64", "--bytes=65536")
+        run = self.start("serve", "device", "plan")
+        self.assertIn(b"rly: serving station 7", run.stderr.readline())
+        for number in range(1, 4):
+            self.put(number, b"\0\x0c%d" % number)
+        self.wake()
+        self.expect_files("out/out", [b"\0\x0c1", b"\0\x0c2"], LATEST)
+        # (a hop that was told that its folder is full gives the datagram again after ever longer waits: here 1.3 s at most)
+        time.sleep(1.0)
+        self.assertEqual(len(self.names("out/out")), 2)
+        for name in self.names("out/out"):
+            os.remove(self.path(f"out/out/{name}"))
+        self.wait_for(lambda: self.names("out/out") == [f"{3:020}"], WATCHED)
+
+    def test_a_folder_that_is_away_is_tried_again(self):
+        """The sub-folder of the second peer goes, and comes back with a file and the time that it had."""
+        run = self.serve_two()
+        then = os.stat(self.path("more/new")).st_mtime_ns - 10**10
+        os.rename(self.path("more/new"), self.path("more/gone"))
+        wanted = b"rly: peer 2: folder call failed (1 so far): No such file or directory (os error 2)\n"
+        self.assertEqual(self.told(run), wanted)
+        self.put(1, b"\0\x0cback", "in")
+        self.wait_for(lambda: len(self.names("out/out")) == 1, WATCHED)
+        hidden = self.write("more/.own", b"\0\x0cmore")
+        os.rename(hidden, self.path(f"more/gone/{1:020}"))
+        os.utime(self.path("more/gone"), ns=(then, then))
+        os.rename(self.path("more/gone"), self.path("more/new"))
+        self.wait_for(lambda: len(self.names("out/out")) == 2, LATEST)
+
+    def test_two_idle_folders_wake_little(self):
+        """Two folders upstream and one downstream, a contact open, nothing moving: the thread that watches, once or twice a second."""
+        run = self.serve_two()
+        self.put(1, b"\0\x0cone", "more")
+        self.wait_for(lambda: len(self.names("out/out")) == 1, WATCHED)
+        time.sleep(4.0)
+        before = self.switches(run)
+        time.sleep(6.0)
+        after = self.switches(run)
+        woken = sorted(after[it] - before[it] for it in before if after[it] > before[it])
+        self.assertEqual(len(woken), 1, woken)
+        self.assertLess(sum(woken), 12, woken)
+
+    @staticmethod
+    def switches(run):
+        """How often each thread has slept, by its id."""
+        found = {}
+        for task in os.listdir(f"/proc/{run.pid}/task"):
+            with open(f"/proc/{run.pid}/task/{task}/status") as file:
+                found[task] = int(next(line for line in file if line.startswith("voluntary")).split()[1])
+        return found
 
 
 class Refused(Folders):

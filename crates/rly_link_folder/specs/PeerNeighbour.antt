@@ -1,5 +1,5 @@
 -- The neighbour station of a peer, played by a folder: its packets, and what it makes of the station's.
-use Rattle.std.specs.Prelude.{◌≡◌, ◌⊎◌, ◌≤◌, ◌<◌, ◌+◌, ◌-◌, ◌&&◌, ◌||◌, ◌==◌, ℕ, Bool, true, false, if◌then◌else◌, nat_le, nat_lt, max}
+use Rattle.std.specs.Prelude.{◌≡◌, ◌⊎◌, ◌≤◌, ◌<◌, ◌+◌, ◌-◌, ◌&&◌, ◌||◌, ◌==◌, ℕ, Bool, true, false, not, if◌then◌else◌, nat_le, nat_lt, max}
 use Rattle.std.specs.Prelude.{List, [], ◌∷◌, ◌++◌, length, Option, None, Some}
 use Rattle.std.specs.Option.{option_to_list}
 use Rattle.rly_folder.specs.FolderCalls.{Did, Faulted, ListNames, Makes, ReadFile}
@@ -308,6 +308,19 @@ tried_again (QuestionRefused refusal) peer = if is_for_good refusal then peer el
 tried_again Serving peer = from_custody peer
 tried_again (Apart custody least greatest) peer = peer
 tried_again (Refused number refusal) peer = if is_for_good refusal then peer else from_custody peer
+
+-- whether that changes anything: a call failed, there is no answer, or something isn't in custody that may be given again
+abbrev pub pending_in : Phase → {F : Type 0} → Peer F → Bool
+pending_in Failed peer = true
+pending_in Asking peer = false
+pending_in Asked peer = true
+pending_in (QuestionRefused refusal) peer = not (is_for_good refusal)
+pending_in Serving peer = nat_lt (custody_of peer.inbox) peer.sent
+pending_in (Apart custody least greatest) peer = false
+pending_in (Refused number refusal) peer = not (is_for_good refusal)
+
+abbrev pub is_pending : {F : Type 0} → Peer F → Bool
+is_pending peer = pending_in peer.phase peer
 
 -- what a link makes of it: a packet comes, one is wanted, another program changed the folder, nothing came for a while
 abbrev pub HearsPacket : {F : Type 0} → (F → FolderState) → List ℕ → Peer F → Peer F → Type 0

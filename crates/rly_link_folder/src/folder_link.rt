@@ -2,7 +2,7 @@
 ghost use Rattle.std.specs.Option.{option_map};
 ghost use Rattle.std.specs.Prelude.{◌≡◌, ◌≤◌, IfNone, IfOk, IfSome, IsOk, None, OnErr, OnOk, Some, length, take};
 ghost use Rattle.rly_link.specs.LinkHistory.{FailuresRose};
-ghost use Rattle.rly_link_folder.specs.FolderLink.{FindsNone, FindsNothing, IsAfter, Rests};
+ghost use Rattle.rly_link_folder.specs.FolderLink.{FindsNone, FindsNothing, IsAfter, Rests, bell_sleep};
 
 use crate::Neighbour;
 use rly_hop::MAX_MESSAGE;
@@ -10,7 +10,8 @@ use rly_link::{Link, LinkFault, Sleep};
 
 /// A link whose far end is a folder, which plays the neighbour station. A packet that comes to its bell, another link, says
 /// that another program changed the folder, and carries nothing. If a wait of the bell ends with nothing the neighbour
-/// tries again: so a bell whose waits have no end makes a link that never does.
+/// tries again. While it has something to try again each wait has an end, the last moment of a clock; so a bell has to end such
+/// a wait by itself after a while.
 #[derive(Drop)]
 pub struct FolderLink<N, L> {
     neighbour: N,
@@ -41,14 +42,15 @@ impl<N: Neighbour, L: Link> FolderLink<N, L> {
         (neighbour, bell)
     }
 
-    /// Waits at the bell.
+    /// Waits at the bell, with an end if the neighbour has something to try again.
     fn rest(&mut self, sleep: Sleep, buffer: &mut [u8]) -> Result<(), LinkFault>
-        ensures rests { OnOk result (Rests L.heard N.wakes N.tries_again sleep
+        ensures rests { OnOk result (Rests L.heard N.pending N.wakes N.tries_again sleep
             self.old.bell self.new.bell self.old.neighbour self.new.neighbour) }
         ensures fails { OnErr result (self.new.neighbour ≡ self.old.neighbour) }
         ensures rise { OnErr result (FailuresRose (L.failed self.old.bell) (L.failed self.new.bell)) }
         ensures no_failure { OnOk result (L.failed self.new.bell ≡ L.failed self.old.bell) }
     {
+        let sleep = bell_sleep(self.neighbour.is_pending(), sleep);
         match self.bell.recv(sleep, buffer) {
             Ok(Some(_)) => {
                 self.neighbour.wake();
@@ -90,7 +92,7 @@ impl<N: Neighbour, L: Link> Link for FolderLink<N, L> {
         ensures no_failure { OnOk result (L.failed self.new.bell ≡ L.failed self.old.bell) }
         ensures packet { IfOk result (λ found. IfSome found (λ count. (self.new.bell ≡ self.old.bell)
             × N.gives (Some (take count buffer.new)) self.old.neighbour self.new.neighbour)) }
-        ensures none { IfOk result (λ found. IfNone found (FindsNone L.heard N.gives N.more N.wakes N.tries_again
+        ensures none { IfOk result (λ found. IfNone found (FindsNone L.heard N.gives N.more N.pending N.wakes N.tries_again
             sleep (length buffer.old) self.old.bell self.new.bell self.old.neighbour self.new.neighbour)) }
         ensures fails { OnErr result (FindsNothing N.gives (length buffer.old) self.old.neighbour self.new.neighbour) }
     {
@@ -122,5 +124,15 @@ impl<N: Neighbour, L: Link> Link for FolderLink<N, L> {
     /// The number of failed calls of the bell.
     fn failures(&self) -> u64 {
         self.bell.failures()
+    }
+}
+
+/// The wait at the bell of a neighbour that has something to try again, or not.
+fn bell_sleep(is_pending: bool, sleep: Sleep) -> Sleep
+    ensures { result ≡ bell_sleep is_pending sleep }
+{
+    match sleep {
+        Sleep::Woken if is_pending => Sleep::Until(u64::MAX),
+        _ => sleep,
     }
 }

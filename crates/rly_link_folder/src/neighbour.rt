@@ -17,6 +17,9 @@ pub trait Neighbour {
     /// There may be a packet at once, though the last call gave none.
     ghost more: { Self → Bool };
 
+    /// There is something to try again if nothing comes.
+    ghost pending: { Self → Bool };
+
     /// Another program may have changed the folder.
     ghost wakes: { Self → Self → Type 0 };
 
@@ -37,6 +40,10 @@ pub trait Neighbour {
     fn has_more(&self) -> bool
         ensures { result ≡ more self.now };
 
+    /// Returns whether there is something to try again if nothing comes, so that a wait has to end in a while.
+    fn is_pending(&self) -> bool
+        ensures { result ≡ pending self.now };
+
     /// Another program may have changed the folder.
     fn wake(&mut self)
         ensures { wakes self.old self.new };
@@ -56,6 +63,8 @@ impl<F: Folder> Neighbour for HopNeighbour<F> {
 
     ghost more = { λ _. false };
 
+    ghost pending = { λ _. false };
+
     ghost wakes = { λ old new. Offers F.state old new };
 
     ghost tries_again = { λ old new. Offers F.state old new };
@@ -72,6 +81,11 @@ impl<F: Folder> Neighbour for HopNeighbour<F> {
         false
     }
 
+    /// The hop gives a Data again that wasn't answered, and whoever makes room wakes the link.
+    fn is_pending(&self) -> bool {
+        false
+    }
+
     fn wake(&mut self) {
         self.offer();
     }
@@ -82,13 +96,15 @@ impl<F: Folder> Neighbour for HopNeighbour<F> {
 }
 
 impl<F: Folder> Neighbour for PeerNeighbour<F> {
-    ghost use Rattle.rly_link_folder.specs.PeerNeighbour.{GivesPacket, HearsPacket, IsSame, IsTriedAgain, has_more};
+    ghost use Rattle.rly_link_folder.specs.PeerNeighbour.{GivesPacket, HearsPacket, IsSame, IsTriedAgain, has_more, is_pending};
 
     ghost hears = { λ packet old new. HearsPacket F.state packet old new };
 
     ghost gives = { λ packet old new. GivesPacket F.state packet old new };
 
     ghost more = { has_more };
+
+    ghost pending = { is_pending };
 
     ghost wakes = { λ old new. IsSame old new };
 
@@ -104,6 +120,10 @@ impl<F: Folder> Neighbour for PeerNeighbour<F> {
 
     fn has_more(&self) -> bool {
         PeerNeighbour::has_more(self)
+    }
+
+    fn is_pending(&self) -> bool {
+        PeerNeighbour::is_pending(self)
     }
 
     /// The next packet is looked for in `new/` anyway.

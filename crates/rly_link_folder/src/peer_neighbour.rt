@@ -1,6 +1,6 @@
 // The neighbour station of a peer, played by a folder.
 ghost use Rattle.std.specs.Option.{option_map};
-ghost use Rattle.std.specs.Prelude.{◌≡◌, ◌⊎◌, ◌≤◌, ◌<◌, ◌+◌, ◌^◌, ◌&&◌, ◌==◌, [], None, Some, IfNone, IfOk, IfSome, OnErr};
+ghost use Rattle.std.specs.Prelude.{◌≡◌, ◌⊎◌, ◌≤◌, ◌<◌, ◌+◌, ◌^◌, ◌&&◌, ◌==◌, [], false, None, Some, IfNone, IfOk, IfSome, OnErr};
 ghost use Rattle.std.specs.Prelude.{if◌then◌else◌, length, nat_le, nat_lt, take};
 ghost use Rattle.rly_folder.specs.FolderCalls.{Faulted, Makes, ReadFile};
 ghost use Rattle.rly_folder.specs.Names.{name_of};
@@ -79,7 +79,7 @@ impl<F: Folder> PeerNeighbour<F> {
     ghost use Rattle.rly_link_folder.specs.PeerNeighbour.{HasSameNumbers, Hears, HearsCustody, Lists, Opens, ServesIf};
     ghost use Rattle.rly_link_folder.specs.PeerNeighbour.{data_with, file_data, has_more, has_window, is_further};
     ghost use Rattle.rly_link_folder.specs.PeerNeighbour.{is_on_its_way, is_serving, packet_read, payload_with, phase_read};
-    ghost use Rattle.rly_link_folder.specs.PeerNeighbour.{phase_refused, question, sent_read, tried_again};
+    ghost use Rattle.rly_link_folder.specs.PeerNeighbour.{phase_refused, is_pending, question, sent_read, tried_again};
 
     /// The station `own`, which this folder plays, for the peer's station `station`. At most `window` Data are on their way,
     /// each with the age limit `limit` in microseconds; 0 = none. It asks first for the station's last number, by a Data 0 for
@@ -168,6 +168,20 @@ impl<F: Folder> PeerNeighbour<F> {
         ensures { result ≡ has_more self.now }
     {
         self.is_serving() && self.has_window() && !self.places.is_empty()
+    }
+
+    /// Returns whether `again` has something to try.
+    pub fn is_pending(&self) -> bool
+        ensures pending { result ≡ is_pending self.now }
+        ensures settled { result ≡ false → tried_again self.now.phase self.now ≡ self.now }
+    {
+        match self.phase {
+            Phase::Failed | Phase::Asked => true,
+            Phase::QuestionRefused { refusal } => !is_for_good(refusal),
+            Phase::Serving => self.inbox.custody() < self.sent,
+            Phase::Refused { refusal, .. } => !is_for_good(refusal),
+            Phase::Asking | Phase::Apart { .. } => false,
+        }
     }
 
     /// Tries again if the station was silent: asks anew if it didn't answer or a call of the folder failed, and gives anew

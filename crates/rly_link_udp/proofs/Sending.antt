@@ -42,7 +42,7 @@ pub udp_send : (C : RattleType) → IsSend C → IsSend (UdpLink.the_row C)
 udp_send C c =
     let udp : Declared = UdpLink.the_type C in
     let fields : AllSend (rows udp.parts) =
-    (search (sendable, crosses) depth 20, (search (sendable, crosses) depth 20, (search (sendable, c) depth 20, (search sendable depth 20, (search (sendable, crosses) depth 20, (search sendable depth 20, (search (sendable, crosses, sends_send) depth 20, (search (sendable, crosses) depth 60, (search (sendable, crosses) depth 20, (search (sendable, crosses, unsent_send) depth 20, (search (sendable, crosses) depth 20, tt))))))))))) in
+    (search (sendable, crosses) depth 20, (search (sendable, crosses) depth 20, (search (sendable, c) depth 20, (search sendable depth 20, (search (sendable, crosses) depth 20, (search sendable depth 20, (search (sendable, crosses, sends_send) depth 20, (search (sendable, crosses) depth 60, (search (sendable, crosses) depth 20, (search (sendable, crosses) depth 20, (search (sendable, crosses, unsent_send) depth 20, (search (sendable, crosses) depth 20, tt)))))))))))) in
     recorded_send (Struct (shape udp)) udp.D udp.to udp.to_one (struct_send (shape udp) fields)
 
 key_send : IsSend Key.the_row

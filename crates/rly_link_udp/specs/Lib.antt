@@ -1,5 +1,6 @@
 pub mod Bells
 pub mod ClockWatch
+pub mod FolderWatch
 pub mod WallClock
 pub mod WrongTags
 pub mod SocketLink

@@ -1,5 +1,5 @@
 -- The duty of a worker's link to a socket, and of its clock.
-use Rattle.std.specs.Prelude.{ℕ, ◌==◌, nat_lt, if◌then◌else◌, Bool, false, is_some, option_and_then, Option, None, Some}
+use Rattle.std.specs.Prelude.{ℕ, ◌==◌, nat_lt, if◌then◌else◌, Bool, false, is_some, List, [], map, option_and_then, Option, None, Some}
 use Rattle.std.specs.Option.{option_map}
 use Rattle.rly_plan_syntax.specs.Endpoints.{Endpoints}
 use Rattle.rly_hop.specs.declared.message.StationId.{StationId}
@@ -7,10 +7,13 @@ use Rattle.rly_link.specs.declared.turn.Worker.{Worker}
 use Rattle.rly_link.specs.declared.turn.Worker.TheVariants as worker
 use Rattle.rly_link_auth.specs.Keys.{Keys}
 use Rattle.rly_link_auth.specs.StationLink.{keys_over, link_below}
+use Rattle.rly_link_udp.specs.FolderWatch.{path_of, seen_of, unseen}
 use Rattle.rly_link_udp.specs.LinkReorder.{reorder_for}
 use Rattle.rly_station.specs.Warnings.{KnownFailures, known_of, none_yet}
 use Rattle.rly_station.specs.declared.warning.SystemCall.TheVariants.{Send}
 use Rattle.rly_link_udp.specs.declared.clock_watch.Reading.{Reading}
+use Rattle.rly_link_udp.specs.declared.folder_watch.FolderPath.{FolderPath}
+use Rattle.rly_link_udp.specs.declared.folder_watch.FolderWatch.{FolderWatch}
 use Rattle.rly_link_udp.specs.declared.link_reorder.LinkReorder.{LinkReorder}
 use Rattle.rly_link_udp.specs.declared.socket_link.SocketLink.{SocketLink}
 use Rattle.rly_link_udp.specs.declared.udp_link.UdpLink.{UdpLink}
@@ -21,14 +24,15 @@ abbrev pub is_first : Worker → Bool
 is_first (worker.Receiver peer) = peer.0 == 1
 is_first (worker.Sender hop) = false
 
--- The longest wait of a worker at a socket, in microseconds, if it has one: ten milliseconds if its turns are bounded, and
--- else a second if it watches the wall clock.
+-- The longest wait of a worker, in microseconds, if it has one: ten milliseconds if its turns are bounded, and else a second
+-- if it watches the wall clock.
 abbrev pub longest_wait : Worker → ℕ → Option ℕ
 longest_wait w turns = if nat_lt 0 turns then Some 10000 else (if is_first w then Some 1000000 else None)
 
--- and of one at a folder, which watches that
-abbrev pub longest_rest : ℕ → ℕ
-longest_rest turns = if nat_lt 0 turns then 10000 else 1000000
+-- and of its waits at a folder that have an end, since something there is to be tried again: a second for a peer's
+abbrev pub longest_until : Worker → Option ℕ
+longest_until (worker.Receiver peer) = Some 1000000
+longest_until (worker.Sender hop) = None
 
 -- the addresses at which a link was opened: none of a bell
 abbrev pub link_addresses : {C : Type 0} → UdpLink C → Option Endpoints
@@ -76,3 +80,15 @@ clock_duty turn = record { watches = is_some turn.watch; before = option_and_the
 -- the receiver of the first peer watches it
 abbrev pub clock_duty_of : Worker → ClockDuty
 clock_duty_of w = record { watches = is_first w; before = None }
+
+-- the folders that a clock watches, with the times of the last looks
+abbrev pub folders_in : Option FolderWatch → List (Worker × List ℕ × Option ℕ × Option ℕ)
+folders_in None = []
+folders_in (Some watch) = map seen_of watch.folders.items
+
+abbrev pub folders_of : {C : Type 0} → WallClock C → List (Worker × List ℕ × Option ℕ × Option ℕ)
+folders_of turn = folders_in turn.folders
+
+-- that of the receiver of the first peer watches all
+abbrev pub folders_watched : Worker → List FolderPath → List (Worker × List ℕ × Option ℕ × Option ℕ)
+folders_watched w folders = if is_first w then map (λ f. unseen (path_of f)) folders else []

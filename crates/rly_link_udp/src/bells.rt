@@ -46,6 +46,13 @@ impl Bells {
         }
     }
 
+    /// Ends the current wait of a worker, or else its next one.
+    pub(crate) fn ring(&self, worker: Worker) {
+        if let Some(bell) = self.of(worker) {
+            bell.ring();
+        }
+    }
+
     /// Ends the current wait of each worker, or else its next one.
     pub(crate) fn wake_all(&self) {
         for bell in &self.peers {

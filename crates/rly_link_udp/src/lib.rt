@@ -3,12 +3,14 @@
 //! `socket_link_of` opens the link of a worker to a socket (`specs/LinkDuties.antt`), with
 //! authentication if there is a key, and a reorder buffer for peers. It counts and logs failed
 //! sends and wrong tags. `bell_of` opens what ends the waits of a link to a folder. A `WallClock`
-//! reads the system's clocks and ends a worker after its turns (`specs/WallClock.antt`); `Bells`
-//! end the waits of workers. Callers: `rly_posts` and `rly_daemon`.
+//! reads the system's clocks and ends a worker after its turns (`specs/WallClock.antt`), and that of
+//! the first peer looks once a second at the times of all folders (`specs/FolderWatch.antt`);
+//! `Bells` end the waits of workers. Callers: `rly_posts` and `rly_daemon`.
 #![tactic(auto)]
 
 mod bells;
 mod clock_watch;
+mod folder_watch;
 mod laws;
 mod link_reorder;
 mod links;
@@ -22,6 +24,7 @@ mod wall_clock;
 mod worker_clock;
 mod wrong_tags;
 
+pub use crate::folder_watch::FolderPath;
 pub use crate::laws::law_stored_datagram_ends_the_sleep;
 pub use crate::links::{bell_of, socket_link_of};
 pub use crate::sender_waker::SenderWaker;

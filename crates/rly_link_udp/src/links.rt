@@ -2,7 +2,7 @@
 
 ghost use Rattle.std.specs.Option.{option_map};
 ghost use Rattle.std.specs.Prelude.{◌≡◌, IfOk, None, Some};
-ghost use Rattle.rly_link_udp.specs.LinkDuties.{link_addresses, longest_rest, longest_wait, socket_duty, socket_duty_of};
+ghost use Rattle.rly_link_udp.specs.LinkDuties.{link_addresses, longest_until, longest_wait, socket_duty, socket_duty_of};
 ghost use Rattle.rly_station.specs.Warnings.{known_of, none_yet};
 
 use crate::link_reorder::LinkReorder;
@@ -26,8 +26,11 @@ use std::time::Clock;
 /// The longest wait of a link whose worker has a number of turns, in microseconds.
 const LIMITED_WAIT: u64 = 10_000;
 
-/// The longest wait of a worker that watches the wall clock or a folder, in microseconds.
+/// The longest wait of a worker that watches the wall clock, in microseconds.
 const WATCHING_WAIT: u64 = 1_000_000;
+
+/// The longest wait of a receiver at a folder in which something is to be tried again, in microseconds.
+const TRYING_WAIT: u64 = 1_000_000;
 
 /// The link of a worker of station `own` to the station `peer` at a socket. It is sealed if there is a key, and has a
 /// reorder buffer for a peer's packets of up to `longest` bytes. Its waits end by the worker's bell, and are bounded if the
@@ -54,8 +57,8 @@ pub fn socket_link_of<'a, H: AllocGlobal + Net + Clock>(
     Ok(SocketLink::new(socket, key, worker, teller, keeping, buffer))
 }
 
-/// The bell of a worker's link to a folder. Its waits end by an empty packet to its address, by the worker's own bell, and
-/// after a second, or ten milliseconds if the worker has a number of turns.
+/// The bell of a worker's link to a folder. Its waits end by an empty packet to its address and by the worker's own bell, and
+/// are bounded as those at a socket. A receiver's wait that has an end takes a second at most.
 pub fn bell_of<'a, H: Net + Clock>(
     rt: &'a H,
     worker: Worker,
@@ -63,13 +66,15 @@ pub fn bell_of<'a, H: Net + Clock>(
     signals: &Signals,
 ) -> io::Result<UdpLink<&'a H>>
     ensures addresses { IfOk result (λ bell. link_addresses bell ≡ None) }
-    ensures longest { IfOk result (λ bell. bell.longest ≡ Some (longest_rest turns)) }
+    ensures longest { IfOk result (λ bell. bell.longest ≡ longest_wait worker turns) }
+    ensures tries { IfOk result (λ bell. bell.longest_until ≡ longest_until worker) }
 {
     let bells = signals.bells()?;
     let bell = UdpLink::open_bell(rt, rt)?;
     Ok(
         bell.with_bell(bells, worker)
-            .with_longest_wait(Some(longest_rest(turns))),
+            .with_longest_wait(longest_wait(worker, turns))
+            .with_longest_until(longest_until(worker)),
     )
 }
 
@@ -123,8 +128,7 @@ fn buffer_of<C: Clock + Drop>(worker: Worker, socket: &UdpLink<C>, longest: usiz
     }
 }
 
-/// The longest wait of a worker at a socket, in microseconds, if it has one: if its turns are bounded, and if it watches the
-/// wall clock.
+/// The longest wait of a worker, in microseconds, if it has one: if its turns are bounded, and if it watches the wall clock.
 fn longest_wait(worker: Worker, turns: u64) -> Option<u64>
     ensures { result ≡ longest_wait worker turns }
 {
@@ -137,14 +141,14 @@ fn longest_wait(worker: Worker, turns: u64) -> Option<u64>
     }
 }
 
-/// The longest wait of a worker at a folder, in microseconds.
-fn longest_rest(turns: u64) -> u64
-    ensures { result ≡ longest_rest turns }
+/// The longest wait of a worker at a folder that has an end, in microseconds, if it is bounded. A sender's ends at a moment at
+/// which it has something to do.
+fn longest_until(worker: Worker) -> Option<u64>
+    ensures { result ≡ longest_until worker }
 {
-    if turns > 0 {
-        LIMITED_WAIT
-    } else {
-        WATCHING_WAIT
+    match worker {
+        Worker::Receiver(_) => Some(TRYING_WAIT),
+        Worker::Sender(_) => None,
     }
 }
 

@@ -62,6 +62,8 @@ pub struct UdpLink<C: Clock + Drop> {
     bells: Option<(Arc<Bells, Global>, Worker)>,
     /// The longest wait of a receive, in microseconds, if it has one.
     longest: Option<u64>,
+    /// The longest wait of a receive that waits until a moment, in microseconds, if it has one.
+    longest_until: Option<u64>,
     /// The packet that it sends again while it waits, if it does so.
     unsent: Option<Unsent>,
     /// The addresses at which it was opened: none of a bell.
@@ -109,6 +111,7 @@ impl<C: Clock + Drop> UdpLink<C> {
             failed_sends: None,
             bells: None,
             longest: None,
+            longest_until: None,
             unsent: None,
             addresses: None,
         }
@@ -132,6 +135,14 @@ impl<C: Clock + Drop> UdpLink<C> {
         ensures { result ≡ record self { longest = longest } }
     {
         self.longest = longest;
+        self
+    }
+
+    /// The same, each of whose waits until a moment is at most this long, in microseconds, if it is a bound.
+    pub(crate) fn with_longest_until(mut self, longest: Option<u64>) -> UdpLink<C>
+        ensures { result ≡ record self { longest_until = longest } }
+    {
+        self.longest_until = longest;
         self
     }
 
@@ -256,24 +267,18 @@ impl<C: Clock + Drop> UdpLink<C> {
     fn timeout_of(&self, sleep: Sleep) -> i32 {
         let left = match sleep {
             Sleep::No => Some(0),
-            Sleep::Until(moment) => Some(moment.saturating_sub(moment_of(
-                self.clock.monotonic().ok(),
-            ))),
+            Sleep::Until(moment) => sooner(Some(self.left_until(moment)), self.longest_until),
             Sleep::Woken => None,
         };
-        match self.sooner(left) {
+        match sooner(left, self.longest) {
             Some(left) => left.div_ceil(1_000).min(MOST_MILLIS) as i32,
             None => -1,
         }
     }
 
-    /// The shorter of a wait and the longest one that it may take, in microseconds.
-    fn sooner(&self, left: Option<u64>) -> Option<u64> {
-        match (left, self.longest) {
-            (Some(left), Some(longest)) => Some(left.min(longest)),
-            (None, longest) => longest,
-            (left, None) => left,
-        }
+    /// The microseconds to a moment of the monotonic clock.
+    fn left_until(&self, moment: u64) -> u64 {
+        moment.saturating_sub(moment_of(self.clock.monotonic().ok()))
     }
 
     /// A receive that began then returned a packet.
@@ -450,6 +455,15 @@ fn first_address<N: Net>(net: &N, text: &str) -> io::Result<SocketAddr> {
     match text.to_socket_addrs(net)?.next() {
         Some(address) => Ok(address),
         None => Err(io::Error::from(ErrorKind::AddrNotAvailable)),
+    }
+}
+
+/// The shorter of a wait and a bound, in microseconds, if they are there.
+fn sooner(left: Option<u64>, longest: Option<u64>) -> Option<u64> {
+    match (left, longest) {
+        (Some(left), Some(longest)) => Some(left.min(longest)),
+        (None, longest) => longest,
+        (left, None) => left,
     }
 }
 

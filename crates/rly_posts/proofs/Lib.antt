@@ -1,3 +1,4 @@
 pub mod CountedPosts
 pub mod SoundNeighbours
 pub mod Sending
+pub mod WatchedPosts

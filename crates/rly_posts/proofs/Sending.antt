@@ -40,7 +40,8 @@ inbox_send F f =
 outbox_send : (F : RattleType) → IsSend F → IsSend (Outbox.the_field F).row
 outbox_send F f =
     let outbox : Declared = Outbox.the_type F in
-    let fields : AllSend (rows outbox.parts) = (f, (search sendable depth 20, (search sendable depth 20, tt))) in
+    let fields : AllSend (rows outbox.parts) =
+    (f, (search sendable depth 20, (search sendable depth 20, (search sendable depth 20, tt)))) in
     struct_send (shape outbox) fields
 
 peer_send : (F : RattleType) → IsSend F → IsSend (Peer.the_row F)

@@ -8,7 +8,7 @@ use Rattle.rly_link_folder.specs.HopNeighbour.{Neighbour}
 use Rattle.rly_link_folder.specs.Inbox.{destination_of, inbox_folder, longest_of, routes_of}
 use Rattle.rly_link_folder.specs.Outbox.{folder_of, most_of}
 use Rattle.rly_link_folder.specs.PeerNeighbour.{Peer}
-use Rattle.rly_link_udp.specs.LinkDuties.{longest_rest}
+use Rattle.rly_link_udp.specs.LinkDuties.{longest_until, longest_wait}
 use Rattle.rly_plan.specs.ContactPlan.{ContactPlan}
 use Rattle.rly_plan.specs.declared.plan.Route.{Route}
 use Rattle.rly_plan.specs.declared.far_end.FolderEnd.{FolderEnd}
@@ -45,7 +45,8 @@ own_station plan = record { 0 = plan.station }
 
 -- The link to a folder whose files become datagrams: the folder, as it was opened, which plays the one station for the other;
 -- the datagrams that this one takes; the age limit of each; how many may be on their way; the destination by which it asks
--- for the last number; and its longest wait, in microseconds. And its log, which is new.
+-- for the last number; and its longest wait, and that of one that has an end, in microseconds, if they are bounded. And its log,
+-- which is new.
 pub record IncomingDuty : Type 0 where
   pub path : List ℕ
   pub is_locked : Bool
@@ -58,6 +59,7 @@ pub record IncomingDuty : Type 0 where
   pub window : ℕ
   pub probe : ℕ
   pub rests : Option ℕ
+  pub tries : Option ℕ
   pub log : LogView
 
 abbrev pub incoming_duty : {C : Type 0} → IncomingLink C → IncomingDuty
@@ -73,6 +75,7 @@ incoming_duty l = record {
   window = l.link.neighbour.window;
   probe = l.link.neighbour.probe;
   rests = l.link.bell.longest;
+  tries = l.link.bell.longest_until;
   log = log_view l.log;
 }
 
@@ -89,7 +92,8 @@ incoming_duty_of plan longest turns w peer end path = record {
   limit = limit_of end.limit;
   window = 64;
   probe = probe_of plan;
-  rests = Some (longest_rest turns);
+  rests = longest_wait w turns;
+  tries = longest_until w;
   log = new_log w;
 }
 
@@ -101,6 +105,7 @@ pub record OutgoingDuty : Type 0 where
   pub station : StationId
   pub most : ℕ
   pub rests : Option ℕ
+  pub tries : Option ℕ
   pub log : LogView
 
 abbrev pub outgoing_duty : {C : Type 0} → OutgoingLink C → OutgoingDuty
@@ -111,6 +116,7 @@ outgoing_duty l = record {
   station = l.link.neighbour.core.peer;
   most = most_of l.link.neighbour.outbox;
   rests = l.link.bell.longest;
+  tries = l.link.bell.longest_until;
   log = log_view l.log;
 }
 
@@ -121,7 +127,8 @@ outgoing_duty_of plan turns w peer end path = record {
   plays = peer;
   station = own_station plan;
   most = end.most;
-  rests = Some (longest_rest turns);
+  rests = longest_wait w turns;
+  tries = longest_until w;
   log = new_log w;
 }
 

@@ -64,6 +64,7 @@ impl<C: AllocGlobal + Files<File = File> + Clock + Clone + Drop> IncomingLink<C>
           window = 64;
           probe = probe;
           rests = opened.bell.longest;
+          tries = opened.bell.longest_until;
           log = log_view log;
         } }
     {

@@ -2,7 +2,8 @@
 //!
 //! `posts_of` opens the link that the plan names for each worker (`specs/Duties.antt`): a socket of
 //! `rly_link_udp`, or a folder of `rly_folder_file` that plays the neighbour by `rly_link_folder`,
-//! locked, with a bell whose address stands in its `.wake`. It logs the first socket whose receive
+//! locked, with a bell whose address stands in its `.wake`. The clock of the first peer watches all
+//! folders (`specs/WatchedFolders.antt`). It logs the first socket whose receive
 //! buffer is too small. `NeighbourLink` is a link of either kind (`specs/Neighbour.antt`). Callers:
 //! `rly_daemon_serve` and `rly_daemon`.
 #![tactic(auto)]
@@ -16,6 +17,7 @@ mod open_folder;
 mod outgoing_link;
 mod posts;
 mod wake_file;
+mod watched_folders;
 
 pub use crate::incoming_link::IncomingLink;
 pub use crate::neighbour_link::NeighbourLink;

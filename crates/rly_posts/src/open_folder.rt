@@ -1,7 +1,7 @@
 //! The opening of a folder that plays a neighbour.
 
-ghost use Rattle.std.specs.Prelude.{◌≡◌, IfOk, Some};
-ghost use Rattle.rly_link_udp.specs.LinkDuties.{longest_rest};
+ghost use Rattle.std.specs.Prelude.{◌≡◌, IfOk};
+ghost use Rattle.rly_link_udp.specs.LinkDuties.{longest_until, longest_wait};
 ghost use Rattle.rly_posts.specs.Folders.{IsOpenAt};
 
 use crate::folder_words::word_of_open;
@@ -39,7 +39,8 @@ pub(crate) fn open_folder<'a, H: AllocGlobal + Files<File = File> + Clock + Net>
     signals: &Signals,
 ) -> Result<OpenFolder<&'a H>, FolderWord>
     ensures folder { IfOk result (λ opened. IsOpenAt path.now opened.folder) }
-    ensures bell { IfOk result (λ opened. opened.bell.longest ≡ Some (longest_rest turns)) }
+    ensures bell { IfOk result (λ opened. (opened.bell.longest ≡ longest_wait worker turns)
+        × (opened.bell.longest_until ≡ longest_until worker)) }
 {
     let folder = locked_folder(rt, worker, path)?;
     let bell = match bell_of(rt, worker, turns, signals) {

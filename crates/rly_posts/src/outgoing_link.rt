@@ -49,6 +49,7 @@ impl<C: AllocGlobal + Files<File = File> + Clock + Clone + Drop> OutgoingLink<C>
           station = own;
           most = most;
           rests = opened.bell.longest;
+          tries = opened.bell.longest_until;
           log = log_view log;
         }) }
     {

@@ -5,15 +5,19 @@ ghost use Rattle.rly_plan.specs.Sound.{IsSoundFolder, IsSoundNeighbour, IsSoundP
 ghost use Rattle.rly_hop.specs.Spelling.{IsStation};
 ghost use Rattle.rly_posts.specs.Duties.{duties, duty_at, duty_of, folder_duty_of, link_duty, link_duty_at};
 ghost use Rattle.rly_posts.specs.Neighbour.{buffer_of};
+ghost use Rattle.rly_posts.specs.WatchedFolders.{watched_by, watched_folders, watches};
+ghost use Rattle.rly_link_udp.specs.FolderWatch.{path_of};
+ghost use Rattle.rly_link_udp.specs.LinkDuties.{folders_of, folders_watched};
 ghost use Rattle.rly_station.specs.ReceiveBuffers.{buffer_warnings, wanted_buffer};
 ghost use Rattle.rly_station.specs.Warnings.{logged_warnings};
 
 use crate::incoming_link::incoming_link_of;
 use crate::neighbour_link::NeighbourLink;
 use crate::outgoing_link::outgoing_link_of;
+use crate::watched_folders::watched_folders;
 use rly_hop::StationId;
 use rly_link::{Post, Worker};
-use rly_link_udp::{SenderWaker, Signals, WallClock, clock_of, socket_link_of};
+use rly_link_udp::{FolderPath, SenderWaker, Signals, WallClock, clock_of, socket_link_of};
 use rly_plan::{FarEnd, FolderEnd, Neighbour, Plan};
 use rly_station::{
     ErrorLines, KeyedWorker, Logger, PlanKeys, ServeFault, buffer_warning, neighbour_of,
@@ -39,7 +43,10 @@ pub fn posts_of<'a, H: AllocGlobal + Files<File = File> + Clock + Net>(
     lines: Arc<ErrorLines, Global>,
 ) -> Result<(Vec<UdpPost<'a, H>>, SenderWaker), ServeFault>
     requires { IsSoundPlan plan.now }
-    ensures { IfOk result (λ posts. map duty_at posts.0.items ≡ duties plan.now keys.entry longest turns) }
+    ensures duties { IfOk result (λ posts. map duty_at posts.0.items ≡ duties plan.now keys.entry longest turns) }
+    // The clock of the first peer watches the folders of all links, and no other clock any.
+    ensures watches { IfOk result (λ posts. map watches posts.0.items
+        ≡ map (watched_by (watched_folders keys.entry)) keys.entry) }
 {
     let signals = Signals::open(rt.alloc(), plan, lines)?;
     let posts = shared_posts(rt, plan, keys, longest, turns, &signals)?;
@@ -59,11 +66,15 @@ fn shared_posts<'a, H: AllocGlobal + Files<File = File> + Clock + Net>(
     signals: &Signals,
 ) -> Result<Vec<UdpPost<'a, H>>, ServeFault>
     requires { IsSoundPlan plan.now }
-    ensures { IfOk result (λ posts. map duty_at posts.items ≡ duties plan.now keys.entry longest turns) }
+    ensures duties { IfOk result (λ posts. map duty_at posts.items ≡ duties plan.now keys.entry longest turns) }
+    ensures watches { IfOk result (λ posts. map watches posts.items
+        ≡ map (watched_by (watched_folders keys.entry)) keys.entry) }
 {
     let mut posts = Vec::new(rt.alloc());
-    for link in keys.into_links() {
-        let post = post_of(rt, plan, link, longest, turns, signals)?;
+    let links = keys.into_links();
+    let folders = watched_folders(rt.alloc(), links.as_slice())?;
+    for link in links {
+        let post = post_of(rt, plan, link, longest, turns, folders.as_slice(), signals)?;
         if posts.push(post).is_err() {
             return Err(AllocError.into());
         }
@@ -72,24 +83,27 @@ fn shared_posts<'a, H: AllocGlobal + Files<File = File> + Clock + Net>(
 }
 
 /// A worker of a plan, with its link, its clock and its waker. The waker has the bells of all workers, and the link has that
-/// of its own worker. Warnings go to the lines. A worker whose neighbour isn't in the plan has no link.
+/// of its own worker. The clock of the first peer watches the folders. Warnings go to the lines. A worker whose neighbour isn't
+/// in the plan has no link.
 fn post_of<'a, H: AllocGlobal + Files<File = File> + Clock + Net>(
     rt: &'a H,
     plan: &Plan,
     keyed: KeyedWorker<'_>,
     longest: usize,
     turns: u64,
+    folders: &[FolderPath],
     signals: &Signals,
 ) -> Result<UdpPost<'a, H>, ServeFault>
     requires { IsSoundPlan plan.now }
-    ensures { IfOk result (λ post. duty_at post ≡ duty_of plan.now longest turns keyed.entry) }
+    ensures duty { IfOk result (λ post. duty_at post ≡ duty_of plan.now longest turns keyed.entry) }
+    ensures watches { IfOk result (λ post. watches post ≡ watched_by (map path_of folders.now) keyed.entry) }
 {
     let worker = keyed.worker;
     let Some(neighbour) = neighbour_of(plan, worker) else {
         return Err(ServeFault::Worker);
     };
     let link = link_of(rt, plan, neighbour, keyed, longest, turns, signals)?;
-    let turn = clock_of(rt, worker, turns, signals)?;
+    let turn = clock_of(rt, worker, turns, folders, signals)?;
     let waker = signals.waker()?;
     Ok(Post {
         worker,
