@@ -71,9 +71,9 @@ class Folders(Rows):
             time.sleep(0.005)
         return time.monotonic() - began
 
-    def expect_files(self, folder, payloads, seconds=SECONDS):
-        """Waits for files under the numbers from 1 on, and compares their bytes."""
-        wanted = [f"{number:020}" for number in range(1, len(payloads) + 1)]
+    def expect_files(self, folder, payloads, seconds=SECONDS, limits={}):
+        """Waits for files under the numbers from 1 on, with these limits in microseconds, and compares their bytes."""
+        wanted = [f"{number:020}" + (f".limit-{limits[number]:020}" if number in limits else "") for number in range(1, len(payloads) + 1)]
         took = self.wait_for(lambda: self.names(folder) == wanted, seconds)
         self.assertEqual([self.read(f"{folder}/{name}") for name in wanted], payloads)
         return took
@@ -117,14 +117,34 @@ class Served(Folders):
         for number in range(1, 4):
             self.put(number, b"%d" % number)
         self.wake()
-        self.expect_files("out/out", [b"\0\x0c1", b"\0\x0c2"], LATEST)
+        limits = {1: 60_000_000, 2: 60_000_000}
+        self.expect_files("out/out", [b"\0\x0c1", b"\0\x0c2"], LATEST, limits)
         self.wait_for(lambda: self.names("in/new") + self.names("in/sent") == [])
         self.assertEqual(len(self.names("out/out")), 2)
         for name in self.names("out/out"):
             os.remove(self.path(f"out/out/{name}"))
         self.wake("out")
-        self.wait_for(lambda: self.names("out/out") == [f"{3:020}"], LATEST)
-        self.assertEqual(self.read(f"out/out/{3:020}"), b"\0\x0c3")
+        third = f"{3:020}.limit-{60_000_000:020}"
+        self.wait_for(lambda: self.names("out/out") == [third], LATEST)
+        self.assertEqual(self.read(f"out/out/{third}"), b"\0\x0c3")
+
+    def test_a_file_has_a_limit_of_its_own(self):
+        """The limit in a file's name comes before the plan's, and goes through the station into the name in `out`."""
+        self.write("plan", PLAN.replace('"in"\n', '"in"\ndestination = 12\nlimit = 60000\n'))
+        self.serve()
+        self.expect("put", "in", "--limit=90000", input=b"first")
+        self.expect("put", "in", "--limit=1099511627", input=b"second")
+        self.expect("put", "in", input=b"third")
+        limits = {1: 90_000_000, 2: 1_099_511_627_000, 3: 60_000_000}
+        self.expect_files("out/out", [b"\0\x0cfirst", b"\0\x0csecond", b"\0\x0cthird"], LATEST, limits)
+        self.wait_for(lambda: self.names("in/new") + self.names("in/sent") == [])
+        self.expect("get", "out", "--lines", output=b"first\nsecond\nthird\n")
+        self.assertEqual(self.names("out/out"), [])
+
+    def test_a_refused_file_keeps_its_limit(self):
+        self.serve()
+        self.expect("put", "in", "--limit=5", input=b"\0\x0d")
+        self.wait_for(lambda: self.names("in/refused") == [f"{1:020}.limit-{5_000:020}.no-route"], LATEST)
 
     def test_one_folder_may_play_both(self):
         """A peer and a hop may share a folder: the lock is of each."""

@@ -24,7 +24,11 @@ BAD_WORDS = [
     (["put", "spool", "--wait=-1"], "a wait below 0"),
     (["put", "spool", "--wait=0.5"], "half a second"),
     (["put", "spool", "--wait=18446744073709551616"], "too long a wait"),
-    (["put", "spool", "--limit=1"], "an option that isn't there yet"),
+    (["put", "spool", "--limit=0"], "no limit"),
+    (["put", "spool", "--limit=1099511628"], "too long a limit"),
+    (["put", "spool", "--limit=0.5"], "half a millisecond"),
+    (["put", "spool", "--limit=1", "--limit=1"], "a repeated limit"),
+    (["get", "spool", "--limit=1"], "a limit of get"),
     (["put", "spool", "--raw"], "an option of get alone"),
     (["put", "spool", "--lines", "--lines"], "a repeated flag"),
     (["get"], "no folder"),
@@ -108,6 +112,15 @@ class Puts(Folders):
         self.expect_put("--destination=12", input=b"12 at the front", files=[b"\x00\x0c12 at the front"])
         self.expect("put", "spool", "--destination", "65535", "--lines", input=b"a\nb\n")
         self.assertEqual(self.put_files()[1:], [b"\xff\xffa", b"\xff\xffb"])
+
+    def test_a_limit_is_in_the_name(self):
+        """In microseconds; a file with a limit and one without have numbers of their own."""
+        self.expect_put("--limit", "1", input=b"a", files=[b"a"])
+        self.expect_put("--limit=1099511627", "--lines", input=b"b\nc\n", files=[b"a", b"b", b"c"])
+        self.expect_put(input=b"d", files=[b"a", b"b", b"c", b"d"])
+        names = self.names("new")
+        self.assertEqual([name[20:] for name in names], [f".limit-{1_000:020}", *[f".limit-{1_099_511_627_000:020}"] * 2, ""])
+        self.assertEqual(len({name[:20] for name in names}), 4)
 
     def test_names_are_moments_and_go_up(self):
         """Also where a file has a number of the future."""

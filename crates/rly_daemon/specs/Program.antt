@@ -1,5 +1,5 @@
 -- The result of a run of the program, by its command line (docs/COMMANDS.md).
-use Rattle.std.specs.Prelude.{◌≡◌, ◌⊎◌, ℕ, ◌+◌, ◌-◌, ◌^◌, ◌≤◌, ◌==◌, MatchBool, List, [], ◌∷◌, ◌++◌, length, IfSome, ⊤}
+use Rattle.std.specs.Prelude.{◌≡◌, ◌⊎◌, ℕ, ◌+◌, ◌-◌, ◌*◌, ◌^◌, ◌≤◌, ◌==◌, MatchBool, List, [], ◌∷◌, ◌++◌, length, IfSome, ⊤}
 use Rattle.std.specs.Prelude.{Bool, Option, None, true, false, codes, unwrap_or}
 use Rattle.std.specs.Fmt.{decimal}
 use Rattle.std.specs.Io.KnownBytes.{Appends}
@@ -83,6 +83,10 @@ HasServedWith turns report false old new told =
 abbrev pub put_form : Bool → Option ℕ → InputForm
 put_form lines destination = record { lines = lines; destination = destination }
 
+-- the age limit in microseconds, from that in milliseconds: 0 for none
+abbrev pub put_limit : Option ℕ → ℕ
+put_limit limit = unwrap_or limit 0 * 1000
+
 abbrev pub get_form : (lines raw : Bool) → Form
 get_form lines raw = record { raw = raw; lines = lines }
 
@@ -104,15 +108,15 @@ IsDone H Key before behind left old new told_old told_new =
     (behind ≡ before) × HasKey old new × (told_new ≡ told_old)
 IsDone H (Plan plan at) before behind left old new told_old told_new =
     (behind ≡ before) × HasShownPlan at old new × (told_new ≡ told_old)
-IsDone H (Put folder lines destination wait) before behind left old new told_old told_new =
-    HasPut H folder.now (put_form lines destination) left × (new ≡ old) × (told_new ≡ told_old)
+IsDone H (Put folder lines destination limit wait) before behind left old new told_old told_new =
+    HasPut H folder.now (put_form lines destination) (put_limit limit) left × (new ≡ old) × (told_new ≡ told_old)
 IsDone H (Get folder lines raw count follow) before behind left old new told_old told_new = (behind ≡ before)
     × HasPrinted H folder.now (get_form lines raw) (unwrap_or count (2 ^ 64 - 1)) follow old new
     × (told_new ≡ told_old)
 
 -- a command that may end while a wait isn't over
 abbrev pub Waits : Settings → Type 0
-Waits (Put folder lines destination wait) = ⊤
+Waits (Put folder lines destination limit wait) = ⊤
 Waits _ = ⊥
 
 -- the wait of a command is over

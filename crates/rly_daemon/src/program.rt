@@ -149,8 +149,9 @@ where
             folder,
             lines,
             destination,
+            limit,
             wait,
-        } => put_files(rt, folder, lines, destination, wait, reader),
+        } => put_files(rt, folder, lines, destination, limit, wait, reader),
         Settings::Get {
             folder,
             lines,

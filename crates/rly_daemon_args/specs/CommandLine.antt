@@ -53,6 +53,10 @@ at_rule = record (number_rule (codes "at")) { parser = Some (parser.Unsigned 0 4
 abbrev pub destination_rule : Rule
 destination_rule = record (number_rule (codes "destination")) { parser = Some (parser.Unsigned 1 65535) }
 
+-- the age limit of files in milliseconds: in microseconds it is below 2^40
+abbrev pub limit_rule : Rule
+limit_rule = record (number_rule (codes "limit")) { parser = Some (parser.Unsigned 1 1099511627) }
+
 -- a command with the options for the payload bytes of a spool, for CoDel and for the longest payload
 abbrev pub with_more_rules : App → App
 with_more_rules app = with_rule (with_rule (with_rule (with_rule (with_rule app
@@ -98,8 +102,8 @@ unfoldable pub plan_app : App
 plan_app = with_rule (with_rule (new_app (codes "plan")) (path_rule (codes "plan"))) at_rule
 
 unfoldable pub put_app : App
-put_app = with_rule (with_rule (with_rule (with_rule (new_app (codes "put")) (path_rule (codes "folder")))
-    (flag_rule (codes "lines"))) destination_rule) (number_rule (codes "wait"))
+put_app = with_rule (with_rule (with_rule (with_rule (with_rule (new_app (codes "put")) (path_rule (codes "folder")))
+    (flag_rule (codes "lines"))) destination_rule) limit_rule) (number_rule (codes "wait"))
 
 unfoldable pub get_app : App
 get_app = with_rule (with_rule (with_rule (with_rule (with_rule (new_app (codes "get")) (path_rule (codes "folder")))
@@ -180,10 +184,11 @@ IsSettings (Some (command, rows)) Key = command ≡ codes "key"
 IsSettings (Some (command, rows)) (Plan plan at) = (command ≡ codes "plan")
     × (plan.now ≡ path_in (codes "plan") rows)
     × ReadsNumber (one_of (codes "at") rows) at
-IsSettings (Some (command, rows)) (Put folder lines destination wait) = (command ≡ codes "put")
+IsSettings (Some (command, rows)) (Put folder lines destination limit wait) = (command ≡ codes "put")
     × (folder.now ≡ path_in (codes "folder") rows)
     × HasFlag rows (codes "lines") lines
     × ReadsNumber (one_of (codes "destination") rows) destination
+    × ReadsNumber (one_of (codes "limit") rows) limit
     × ReadsNumber (one_of (codes "wait") rows) wait
 IsSettings (Some (command, rows)) (Get folder lines raw count follow) = (command ≡ codes "get")
     × (folder.now ≡ path_in (codes "folder") rows)

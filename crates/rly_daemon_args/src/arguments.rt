@@ -2,7 +2,7 @@ ghost use Rattle.std.specs.Prelude.{◌≡◌, false};
 ghost use Rattle.clap.specs.Words.{App, Rule, rule_of, with_rule};
 ghost use Rattle.rly_daemon_args.specs.HelpersBuilt.{IsBuilt};
 ghost use Rattle.rly_daemon_args.specs.CommandLine.{at_rule, batch_rule, destination_rule, flag_rule, gather_rule};
-ghost use Rattle.rly_daemon_args.specs.CommandLine.{number_rule, option_rule, path_rule, with_more_rules, with_param_rules};
+ghost use Rattle.rly_daemon_args.specs.CommandLine.{limit_rule, number_rule, option_rule, path_rule, with_more_rules, with_param_rules};
 
 use clap::{Arg, ArgAction, Command, value_parser};
 use rly_core::limits;
@@ -19,6 +19,9 @@ const LAST_MOMENT: i64 = limits::MOMENT_LIMIT as i64 - 1;
 
 /// The greatest number of a station.
 const LAST_STATION: i64 = 65_535;
+
+/// The longest age limit, in milliseconds: in microseconds it is below 2^40.
+const LONGEST_LIMIT: i64 = 1_099_511_627;
 
 /// Adds an argument to a command. `Err`: out of memory.
 pub(crate) fn with_arg<'a>(
@@ -210,6 +213,19 @@ pub(crate) fn destination<'a>(alloc: Global) -> Arg<'a>
         "Destination of each payload, a station, 1 to 65535: its two bytes are put before the payload",
     )
     .value_parser(value_parser!(u64).range(1..=LAST_STATION))
+}
+
+/// The option for the age limit of a file.
+pub(crate) fn limit<'a>(alloc: Global) -> Arg<'a>
+    ensures rule { rule_of result ≡ limit_rule }
+    ensures own { result.global ≡ false }
+{
+    number(
+        alloc,
+        "limit",
+        "Age limit of each payload in milliseconds, 1 to 1099511627; default: that of the station's plan",
+    )
+    .value_parser(value_parser!(u64).range(1..=LONGEST_LIMIT))
 }
 
 /// An option with a number and a default.

@@ -109,6 +109,7 @@ fn folder_settings_of<'a>(matches: &ArgMatches<'a>) -> Option<Settings<'a>>
             folder: path_of(options, "folder"),
             lines: has_flag(options, "lines"),
             destination: given_number(options, "destination"),
+            limit: given_number(options, "limit"),
             wait: given_number(options, "wait"),
         });
     }

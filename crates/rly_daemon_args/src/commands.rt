@@ -5,7 +5,8 @@ ghost use Rattle.rly_daemon_args.specs.CommandLine.{audit_app, format_app, get_a
 ghost use Rattle.rly_daemon_args.specs.CommandLine.{put_app, rly_app, rly_top, serve_app, sim_app};
 
 use crate::arguments::{
-    at, batch, destination, flag, gather, number, with_arg, with_option, with_params, with_path,
+    at, batch, destination, flag, gather, limit, number, with_arg, with_option, with_params,
+    with_path,
 };
 use clap::Command;
 use std::alloc::{AllocError, Global};
@@ -252,12 +253,13 @@ fn put<'a>(alloc: Global) -> Result<Command<'a>, AllocError>
     );
     let with_lines = with_arg(with_folder, lines);
     let with_destination = with_arg(with_lines, destination(alloc));
+    let with_limit = with_arg(with_destination, limit(alloc));
     let wait = number(
         alloc,
         "wait",
         "Seconds to wait for the station's custody after the last file was put; default: no wait",
     );
-    with_arg(with_destination, wait)
+    with_arg(with_limit, wait)
 }
 
 fn get<'a>(alloc: Global) -> Result<Command<'a>, AllocError>

@@ -68,6 +68,8 @@ pub enum Settings<'a> {
         lines: bool,
         /// The station whose two bytes come before each payload, 1 to 65,535.
         destination: Option<u64>,
+        /// The age limit of each payload in milliseconds, 1 to 1,099,511,627: `None` for that of the station's plan.
+        limit: Option<u64>,
         /// Seconds for which it waits for the station's custody after its last file: `None` = not at all.
         wait: Option<u64>,
     },

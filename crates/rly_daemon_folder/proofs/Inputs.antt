@@ -51,15 +51,15 @@ long_more destination (Some xs) (Some ys) fs gs one two =
 
 -- ---- files that were put
 
-module _ {D : Type 0} (state : D → FolderState) where
-  pub each_joined : (xs ys : List (List ℕ)) (a m b : D) → PutsEach state xs a m → PutsEach state ys m b → PutsEach state (xs ++ ys) a b
+module _ {D : Type 0} (state : D → FolderState) (age : ℕ) where
+  pub each_joined : (xs ys : List (List ℕ)) (a m b : D) → PutsEach state age xs a m → PutsEach state age ys m b → PutsEach state age (xs ++ ys) a b
   each_joined [] ys a m b one two = rw one at two
   each_joined (x ∷ xs) ys a m b one two = (one.0, one.1, each_joined xs ys one.0 m b one.2 two)
 
   -- files of the first lines were put, in order
   pub record HasPutLines (destination : Option ℕ) (before left : Option (List ℕ)) (old new : D) : Type 0 where
     pub files : List (List ℕ)
-    pub each : PutsEach state files old new
+    pub each : PutsEach state age files old new
     pub has_read : HasRead destination before left files
 
   pub no_lines : (destination : Option ℕ) (before left : Option (List ℕ)) (a : D) → before ≡ left → HasPutLines destination before left a a
@@ -67,7 +67,7 @@ module _ {D : Type 0} (state : D → FolderState) where
       record { files = []; each = refl; has_read = subst (λ b. HasRead destination b left []) (sym same) (read_none destination left) }
 
   pub more_lines : (destination : Option ℕ) (before left rest : Option (List ℕ)) (a m b : D) → HasPutLines destination before left a m
-      → PutsLine state destination true left rest m b → HasPutLines destination before rest a b
+      → PutsLine state age destination true left rest m b → HasPutLines destination before rest a b
   more_lines destination before left rest a m b one two = record {
     files = one.files ++ two.0 ∷ [];
     each = each_joined one.files (two.0 ∷ []) a m b one.each (b, two.1, refl);
@@ -75,7 +75,7 @@ module _ {D : Type 0} (state : D → FolderState) where
   }
 
   pub all_lines : (destination : Option ℕ) (before left rest : Option (List ℕ)) (a m b : D) → HasPutLines destination before left a m
-      → PutsLine state destination false left rest m b → PutsInput state (each_line_of destination) before a b
+      → PutsLine state age destination false left rest m b → PutsInput state age (each_line_of destination) before a b
   all_lines destination before left rest a m b one two = record {
     files = one.files;
     each = rw two.0 one.each;
@@ -90,7 +90,7 @@ module _ {D : Type 0} (state : D → FolderState) where
           sym (has ∙ ap (λ l. one.files ++ each_line_of destination l) none ∙ append-nil one.files)
 
   stops_later : (destination : Option ℕ) (a b : Option (List ℕ)) (fs gs : List (List ℕ)) (why : PutStop) (m n : D) → HasRead destination a b fs
-      → StopsAfter state (each_line_of destination) b gs why m n → StopsAfter state (each_line_of destination) a (fs ++ gs) why m n
+      → StopsAfter state age (each_line_of destination) b gs why m n → StopsAfter state age (each_line_of destination) a (fs ++ gs) why m n
   stops_later destination a b fs gs stop.Input m n has stops = (stops.0, begin_more destination a b fs gs has stops.1)
   stops_later destination a b fs gs stop.OutOfMemory m n has stops = (stops.0, begin_more destination a b fs gs has stops.1)
   stops_later destination a b fs gs stop.TooLong m n has stops = (stops.0, long_more destination a b fs gs has stops.1)
@@ -99,7 +99,7 @@ module _ {D : Type 0} (state : D → FolderState) where
   stops_later destination a b fs gs (stop.Wait fault) m n has stops = (stops.0, begin_more destination a b fs gs has stops.1)
 
   pub lines_stop : (destination : Option ℕ) (before left : Option (List ℕ)) (why : PutStop) (a m b : D) → HasPutLines destination before left a m
-      → StopsInput state (each_line_of destination) why left m b → StopsInput state (each_line_of destination) why before a b
+      → StopsInput state age (each_line_of destination) why left m b → StopsInput state age (each_line_of destination) why before a b
   lines_stop destination before left why a m b one two = record {
     files = one.files ++ two.files;
     stopped = two.stopped;
@@ -111,7 +111,7 @@ module _ {D : Type 0} (state : D → FolderState) where
 
   -- nothing was put
   pub stops_first : (files_in : List ℕ → List (List ℕ)) (why : PutStop) (input : Option (List ℕ)) (a : D)
-      → StopsAfter state files_in input [] why a a → StopsInput state files_in why input a a
+      → StopsAfter state age files_in input [] why a a → StopsInput state age files_in why input a a
   stops_first files_in why input a stops = record { files = []; stopped = a; each = refl; stops = stops }
 
   pub begin_none : (files_in : List ℕ → List (List ℕ)) (input : Option (List ℕ)) → Begin files_in input []
@@ -121,7 +121,7 @@ module _ {D : Type 0} (state : D → FolderState) where
   -- if a file that isn't too long is the next one of an input, its outcome is that of the input
   pub file_stops : (files_in : List ℕ → List (List ℕ)) (input : Option (List ℕ)) (file : List ℕ) (why : PutStop) (a b : D)
       → (length file ≤ longest_file → Begin files_in input (file ∷ [])) → (longest_file < length file → LongNext files_in input [])
-      → StopsFile state file why a b → StopsInput state files_in why input a b
+      → StopsFile state age file why a b → StopsInput state age files_in why input a b
   file_stops files_in input file stop.Input a b next long stops = absurd stops
   file_stops files_in input file stop.OutOfMemory a b next long stops = absurd stops
   file_stops files_in input file stop.TooLong a b next long stops =
@@ -168,31 +168,31 @@ module _ (destination : Option ℕ) where
     kept_long (front_of destination) takes.0 (rw takes.2 at long),
   )
 
-module _ {D : Type 0} (state : D → FolderState) (destination : Option ℕ) where
+module _ {D : Type 0} (state : D → FolderState) (age : ℕ) (destination : Option ℕ) where
   pub line_put : (before left : Option (List ℕ)) (kept given : List ℕ) (a b : D) → TakesLine true before left kept → given ≡ front_of destination ++ kept
-      → PutsFile state given a b → PutsLine state destination true before left a b
+      → PutsFile state age given a b → PutsLine state age destination true before left a b
   line_put before left kept given a b takes is puts = (given, puts, rw is (next_read destination before left kept takes (rw is at puts.short)))
 
   pub line_stops : (before left : Option (List ℕ)) (kept given : List ℕ) (why : PutStop) {X : Type 0} (result : Result X PutStop) (a b : D) → TakesLine true before left kept
-      → given ≡ front_of destination ++ kept → IsErrAnd result (λ e. e ≡ why) → StopsFile state given why a b
-      → IfErr result (λ e. StopsInput state (each_line_of destination) e before a b)
+      → given ≡ front_of destination ++ kept → IsErrAnd result (λ e. e ≡ why) → StopsFile state age given why a b
+      → IfErr result (λ e. StopsInput state age (each_line_of destination) e before a b)
   line_stops before left kept given why (Ok x) a b takes is same stops = tt
   line_stops before left kept given why (Err e) a b takes is same stops =
-      let own : StopsFile state (front_of destination ++ kept) why a b = subst (λ file. StopsFile state file why a b) is stops in
-      rw same (file_stops state (each_line_of destination) before (front_of destination ++ kept) why a b (next_begins destination before left kept takes)
+      let own : StopsFile state age (front_of destination ++ kept) why a b = subst (λ file. StopsFile state age file why a b) is stops in
+      rw same (file_stops state age (each_line_of destination) before (front_of destination ++ kept) why a b (next_begins destination before left kept takes)
       (next_long destination before left kept takes) own)
 
   -- nothing was read yet
-  pub lines_start : (ahead : List ℕ) (left : Option (List ℕ)) (a : D) → ahead ≡ [] → HasPutLines state destination left (prepend_known ahead left) a a
-  lines_start ahead None a none = no_lines state destination None None a refl
-  lines_start ahead (Some xs) a none = rw none (no_lines state destination (Some xs) (Some xs) a refl)
+  pub lines_start : (ahead : List ℕ) (left : Option (List ℕ)) (a : D) → ahead ≡ [] → HasPutLines state age destination left (prepend_known ahead left) a a
+  lines_start ahead None a none = no_lines state age destination None None a refl
+  lines_start ahead (Some xs) a none = rw none (no_lines state age destination (Some xs) (Some xs) a refl)
 
   -- some error of the lines is that of the input
-  pub lines_err : (before left : Option (List ℕ)) (why : PutStop) {X : Type 0} (result : Result X PutStop) (a m b : D) → HasPutLines state destination before left a m
-      → IsErrAnd result (λ e. e ≡ why) → StopsInput state (each_line_of destination) why left m b
-      → IfErr result (λ e. StopsInput state (each_line_of destination) e before a b)
+  pub lines_err : (before left : Option (List ℕ)) (why : PutStop) {X : Type 0} (result : Result X PutStop) (a m b : D) → HasPutLines state age destination before left a m
+      → IsErrAnd result (λ e. e ≡ why) → StopsInput state age (each_line_of destination) why left m b
+      → IfErr result (λ e. StopsInput state age (each_line_of destination) e before a b)
   lines_err before left why (Ok x) a m b one same two = tt
-  lines_err before left why (Err e) a m b one same two = rw same (lines_stop state destination before left why a m b one two)
+  lines_err before left why (Err e) a m b one same two = rw same (lines_stop state age destination before left why a m b one two)
 
 -- ---- an input that is read up to one byte more than the longest file
 
@@ -220,18 +220,18 @@ module _ (destination : Option ℕ) (limit : ℕ) (file : List ℕ) (fits : limi
       longer : (bytes : List ℕ) → file ≡ front_of destination ++ take limit bytes → longest_file < length file → longest_file < length (front_of destination ++ bytes)
       longer bytes read long = grind (arith, rw read at long, length-append (front_of destination) (take limit bytes), length-append (front_of destination) bytes, length-take limit bytes)
 
-module _ {D : Type 0} (state : D → FolderState) (destination : Option ℕ) (limit : ℕ) (file given : List ℕ) (fits : limit ≡ 8195 - length (front_of destination))
+module _ {D : Type 0} (state : D → FolderState) (age : ℕ) (destination : Option ℕ) (limit : ℕ) (file given : List ℕ) (fits : limit ≡ 8195 - length (front_of destination))
     (input : Option (List ℕ)) (read : IfSome (option_map (take limit) input) (λ xs. file ≡ front_of destination ++ xs)) (is : given ≡ file) where
-  pub whole_puts : {X : Type 0} (result : Result X PutStop) (a b : D) → OnOk result (PutsFile state given a b) → OnOk result (PutsInput state (whole_of destination) input a b)
-  whole_puts (Ok x) a b puts = let own : PutsFile state file a b = subst (λ f. PutsFile state f a b) is puts in record {
+  pub whole_puts : {X : Type 0} (result : Result X PutStop) (a b : D) → OnOk result (PutsFile state age given a b) → OnOk result (PutsInput state age (whole_of destination) input a b)
+  whole_puts (Ok x) a b puts = let own : PutsFile state age file a b = subst (λ f. PutsFile state age f a b) is puts in record {
     files = file ∷ [];
     each = (b, own, refl);
     all = whole_read destination limit file fits input read own.short;
   }
   whole_puts (Err e) a b puts = tt
 
-  pub whole_stops : {X : Type 0} (result : Result X PutStop) (a b : D) → IfErr result (λ why. StopsFile state given why a b)
-      → IfErr result (λ why. StopsInput state (whole_of destination) why input a b)
+  pub whole_stops : {X : Type 0} (result : Result X PutStop) (a b : D) → IfErr result (λ why. StopsFile state age given why a b)
+      → IfErr result (λ why. StopsInput state age (whole_of destination) why input a b)
   whole_stops (Ok x) a b stops = tt
-  whole_stops (Err why) a b stops = file_stops state (whole_of destination) input file why a b (whole_begins destination limit file fits input read)
-      (whole_long destination limit file fits input read) (subst (λ f. StopsFile state f why a b) is stops)
+  whole_stops (Err why) a b stops = file_stops state age (whole_of destination) input file why a b (whole_begins destination limit file fits input read)
+      (whole_long destination limit file fits input read) (subst (λ f. StopsFile state age f why a b) is stops)

@@ -1,7 +1,7 @@
 -- The files of an input, and the calls that put them (docs/COMMANDS.md, "rly put").
 use Rattle.std.specs.Prelude.{◌≡◌, ◌<◌, ◌≤◌, ◌/◌, ◌%◌, ℕ, if◌then◌else◌, true, List, [], ◌∷◌, ◌++◌, length, map}
 use Rattle.std.specs.Prelude.{Option, None, Some, IfSome}
-use Rattle.rly_folder.specs.FolderModel.{FolderState}
+use Rattle.rly_folder.specs.FolderModel.{FolderState, file_with}
 use Rattle.rly_folder_clients.specs.Putting.{FailsToPut, HadRoom, Puts}
 use Rattle.rly_daemon_lines.specs.Lines.{lines_of}
 use Rattle.rly_daemon_folder.specs.declared.input_form.InputForm.{InputForm}
@@ -32,26 +32,26 @@ longest_file = 8194
 abbrev pub most_files : ℕ
 most_files = 16384
 
--- a file was put, durably
-pub record PutsFile {D : Type 0} (state : D → FolderState) (file : List ℕ) (old new : D) : Type 0 where
+-- a file was put, durably, with this age limit in microseconds, 0 for none
+pub record PutsFile {D : Type 0} (state : D → FolderState) (age : ℕ) (file : List ℕ) (old new : D) : Type 0 where
   pub short : length file ≤ longest_file
   pub room : HadRoom state most_files old
   -- the moment at which it was put, and its number
   pub now : ℕ
   pub number : ℕ
   pub clock : now ≤ number
-  pub puts : Puts state file now number true old new
+  pub puts : Puts state (file_with file age) now number true old new
 
 -- files were put, one after another
-abbrev pub PutsEach : {D : Type 0} → (D → FolderState) → List (List ℕ) → D → D → Type 0
-PutsEach state [] old new = new ≡ old
-PutsEach {D} state (file ∷ files) old new = (next : D) × PutsFile state file old next × PutsEach state files next new
+abbrev pub PutsEach : {D : Type 0} → (D → FolderState) → ℕ → List (List ℕ) → D → D → Type 0
+PutsEach state age [] old new = new ≡ old
+PutsEach {D} state age (file ∷ files) old new = (next : D) × PutsFile state age file old next × PutsEach state age files next new
 
 -- all files of a known input were put, in order
-pub record PutsInput {D : Type 0} (state : D → FolderState) (files_in : List ℕ → List (List ℕ)) (input : Option (List ℕ))
+pub record PutsInput {D : Type 0} (state : D → FolderState) (age : ℕ) (files_in : List ℕ → List (List ℕ)) (input : Option (List ℕ))
     (old new : D) : Type 0 where
   pub files : List (List ℕ)
-  pub each : PutsEach state files old new
+  pub each : PutsEach state age files old new
   pub all : IfSome input (λ bytes. files ≡ files_in bytes)
 
 -- the files of a known input begin with these
@@ -59,24 +59,24 @@ abbrev pub Begin : (List ℕ → List (List ℕ)) → Option (List ℕ) → List
 Begin files_in input files = IfSome input (λ bytes. (rest : List (List ℕ)) × (files_in bytes ≡ files ++ rest))
 
 -- after these files no more was put, and why
-abbrev pub StopsAfter : {D : Type 0} → (D → FolderState) → (List ℕ → List (List ℕ)) → Option (List ℕ) → List (List ℕ) → PutStop
+abbrev pub StopsAfter : {D : Type 0} → (D → FolderState) → ℕ → (List ℕ → List (List ℕ)) → Option (List ℕ) → List (List ℕ) → PutStop
     → D → D → Type 0
-StopsAfter state files_in input files stop.Input old new = (new ≡ old) × Begin files_in input files
-StopsAfter state files_in input files stop.OutOfMemory old new = (new ≡ old) × Begin files_in input files
+StopsAfter state age files_in input files stop.Input old new = (new ≡ old) × Begin files_in input files
+StopsAfter state age files_in input files stop.OutOfMemory old new = (new ≡ old) × Begin files_in input files
 -- the next file is too long
-StopsAfter state files_in input files stop.TooLong old new = (new ≡ old) × IfSome input (λ bytes. (file : List ℕ)
+StopsAfter state age files_in input files stop.TooLong old new = (new ≡ old) × IfSome input (λ bytes. (file : List ℕ)
     × (rest : List (List ℕ)) × (files_in bytes ≡ files ++ file ∷ rest) × (longest_file < length file))
 -- the next file wasn't put, or not durably
-StopsAfter state files_in input files (stop.Put fault) old new = (file : List ℕ) × (now : ℕ)
-    × (length file ≤ longest_file) × FailsToPut state file most_files now fault old new
+StopsAfter state age files_in input files (stop.Put fault) old new = (file : List ℕ) × (now : ℕ)
+    × (length file ≤ longest_file) × FailsToPut state (file_with file age) most_files now fault old new
     × Begin files_in input (files ++ file ∷ [])
 -- the wait for custody of some of these failed
-StopsAfter state files_in input files (stop.Wait fault) old new = (new ≡ old) × Begin files_in input files
+StopsAfter state age files_in input files (stop.Wait fault) old new = (new ≡ old) × Begin files_in input files
 
 -- the first files of a known input were put, in order, and no more
-pub record StopsInput {D : Type 0} (state : D → FolderState) (files_in : List ℕ → List (List ℕ)) (why : PutStop)
+pub record StopsInput {D : Type 0} (state : D → FolderState) (age : ℕ) (files_in : List ℕ → List (List ℕ)) (why : PutStop)
     (input : Option (List ℕ)) (old new : D) : Type 0 where
   pub files : List (List ℕ)
   pub stopped : D
-  pub each : PutsEach state files old stopped
-  pub stops : StopsAfter state files_in input files why stopped new
+  pub each : PutsEach state age files old stopped
+  pub stops : StopsAfter state age files_in input files why stopped new

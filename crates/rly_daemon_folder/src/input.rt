@@ -28,24 +28,27 @@ pub trait AfterPut<F> {
     fn after_put(&mut self, folder: &F) -> Result<(), WaitFault>;
 }
 
-/// Puts an input into a folder, durably: all of it as one file, or each line as one, in order. After an `Err` the first
+/// Puts an input into a folder, durably: all of it as one file, or each line as one, in order, each with an age limit in
+/// microseconds if that isn't 0. After an `Err` the first
 /// files were put, in order, and each of them once.
 pub fn put_input<R: Read, F: Folder, C: Clock, A: AfterPut<F>>(
     alloc: Global,
     clock: &C,
     folder: &mut F,
     form: InputForm,
+    limit: u64,
     reader: &mut R,
     after: &mut A,
 ) -> Result<(), PutStop>
-    ensures puts { OnOk result (PutsInput F.state (files_of form) (R.remaining reader.old) folder.old folder.new) }
+    requires { limit < 2 ^ 40 }
+    ensures puts { OnOk result (PutsInput F.state limit (files_of form) (R.remaining reader.old) folder.old folder.new) }
     ensures stops { IfErr result
-        (λ why. StopsInput F.state (files_of form) why (R.remaining reader.old) folder.old folder.new) }
+        (λ why. StopsInput F.state limit (files_of form) why (R.remaining reader.old) folder.old folder.new) }
 {
     if form.lines {
-        put_lines(alloc, clock, folder, form.destination, reader, after)
+        put_lines(alloc, clock, folder, form.destination, limit, reader, after)
     } else {
-        put_whole(alloc, clock, folder, form.destination, reader, after)
+        put_whole(alloc, clock, folder, form.destination, limit, reader, after)
     }
 }
 
@@ -55,18 +58,20 @@ fn put_whole<R: Read, F: Folder, C: Clock, A: AfterPut<F>>(
     clock: &C,
     folder: &mut F,
     destination: Option<u16>,
+    limit: u64,
     reader: &mut R,
     after: &mut A,
 ) -> Result<(), PutStop>
+    requires { limit < 2 ^ 40 }
     ensures puts { OnOk result
-        (PutsInput F.state (whole_of destination) (R.remaining reader.old) folder.old folder.new) }
+        (PutsInput F.state limit (whole_of destination) (R.remaining reader.old) folder.old folder.new) }
     ensures stops { IfErr result
-        (λ why. StopsInput F.state (whole_of destination) why (R.remaining reader.old) folder.old folder.new) }
+        (λ why. StopsInput F.state limit (whole_of destination) why (R.remaining reader.old) folder.old folder.new) }
 {
     let mut file = front(alloc, destination)?;
     let most = (LONGEST + 1 - file.len()) as u64;
     match reader.take(most).read_to_end(&mut file) {
-        Ok(_) => put_file(clock, folder, &file, after),
+        Ok(_) => put_file(clock, folder, &file, limit, after),
         Err(error) if error.kind() == ErrorKind::OutOfMemory => Err(PutStop::OutOfMemory),
         Err(_) => Err(PutStop::Input),
     }
@@ -78,16 +83,27 @@ fn put_lines<R: Read, F: Folder, C: Clock, A: AfterPut<F>>(
     clock: &C,
     folder: &mut F,
     destination: Option<u16>,
+    limit: u64,
     reader: &mut R,
     after: &mut A,
 ) -> Result<(), PutStop>
+    requires { limit < 2 ^ 40 }
     ensures puts { OnOk result
-        (PutsInput F.state (each_line_of destination) (R.remaining reader.old) folder.old folder.new) }
+        (PutsInput F.state limit (each_line_of destination) (R.remaining reader.old) folder.old folder.new) }
     ensures stops { IfErr result
-        (λ why. StopsInput F.state (each_line_of destination) why (R.remaining reader.old) folder.old folder.new) }
+        (λ why. StopsInput F.state limit (each_line_of destination) why (R.remaining reader.old) folder.old folder.new) }
 {
     let mut lines = LineReader::new(alloc)?;
-    'lines: while put_line(alloc, clock, folder, destination, &mut lines, reader, after)? {}
+    'lines: while put_line(
+        alloc,
+        clock,
+        folder,
+        destination,
+        limit,
+        &mut lines,
+        reader,
+        after,
+    )? {}
     Ok(())
 }
 
@@ -97,14 +113,16 @@ fn put_line<R: Read, F: Folder, C: Clock, A: AfterPut<F>>(
     clock: &C,
     folder: &mut F,
     destination: Option<u16>,
+    limit: u64,
     lines: &mut LineReader,
     reader: &mut R,
     after: &mut A,
 ) -> Result<bool, PutStop>
-    ensures puts { IfOk result (λ more. PutsLine F.state destination more
+    requires { limit < 2 ^ 40 }
+    ensures puts { IfOk result (λ more. PutsLine F.state limit destination more
         (prepend_known lines.old.ahead (R.remaining reader.old))
         (prepend_known lines.new.ahead (R.remaining reader.new)) folder.old folder.new) }
-    ensures stops { IfErr result (λ why. StopsInput F.state (each_line_of destination) why
+    ensures stops { IfErr result (λ why. StopsInput F.state limit (each_line_of destination) why
         (prepend_known lines.old.ahead (R.remaining reader.old)) folder.old folder.new) }
     ensures progress { result ≡ Ok true → (lines.old.taken < lines.new.taken) × (lines.new.taken < 2 ^ 64) }
 {
@@ -114,7 +132,7 @@ fn put_line<R: Read, F: Folder, C: Clock, A: AfterPut<F>>(
         Err(_) => return Err(PutStop::Input),
     }
     let file = file_of(alloc, destination, lines.line())?;
-    put_file(clock, folder, &file, after)?;
+    put_file(clock, folder, &file, limit, after)?;
     Ok(true)
 }
 
@@ -123,15 +141,17 @@ fn put_file<F: Folder, C: Clock, A: AfterPut<F>>(
     clock: &C,
     folder: &mut F,
     file: &[u8],
+    limit: u64,
     after: &mut A,
 ) -> Result<(), PutStop>
-    ensures puts { OnOk result (PutsFile F.state file.now folder.old folder.new) }
-    ensures stops { IfErr result (λ why. StopsFile F.state file.now why folder.old folder.new) }
+    requires { limit < 2 ^ 40 }
+    ensures puts { OnOk result (PutsFile F.state limit file.now folder.old folder.new) }
+    ensures stops { IfErr result (λ why. StopsFile F.state limit file.now why folder.old folder.new) }
 {
     if file.len() > LONGEST {
         return Err(PutStop::TooLong);
     }
-    match put(folder, file, MOST, moment_of(clock)) {
+    match put(folder, file, limit, MOST, moment_of(clock)) {
         Ok(_) => match after.after_put(folder) {
             Ok(()) => Ok(()),
             Err(fault) => Err(PutStop::Wait(fault)),

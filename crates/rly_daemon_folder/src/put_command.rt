@@ -1,5 +1,5 @@
 //! `rly put`: standard input becomes files of a folder.
-ghost use Rattle.std.specs.Prelude.{OnOk};
+ghost use Rattle.std.specs.Prelude.{◌<◌, ◌^◌, OnOk};
 ghost use denote.Ref.{Bor};
 ghost use Rattle.rly_daemon_folder.specs.FolderCommands.{HasPut};
 
@@ -15,6 +15,8 @@ use std::io::Read;
 pub struct PutSettings {
     /// The form of the input.
     pub form: InputForm,
+    /// The age limit of each file in microseconds; 0 = none.
+    pub limit: u64,
     /// Seconds for which it waits for the station's custody after the last file; `None` = not at all.
     pub wait: Option<u64>,
 }
@@ -27,7 +29,8 @@ pub fn run_put<H: FolderHost, R: Read>(
     settings: PutSettings,
     reader: &mut R,
 ) -> Result<(), FolderCommandFault>
-    ensures put { OnOk result (HasPut (Bor H) path.now settings.form (R.remaining reader.old)) }
+    requires { settings.limit < 2 ^ 40 }
+    ensures put { OnOk result (HasPut (Bor H) path.now settings.form settings.limit (R.remaining reader.old)) }
 {
     let own = own_name(rt)?;
     let mut folder = open(rt, path, own.as_str())?;
@@ -37,6 +40,7 @@ pub fn run_put<H: FolderHost, R: Read>(
         rt,
         &mut folder,
         settings.form,
+        settings.limit,
         reader,
         &mut wait,
     );

@@ -29,7 +29,7 @@ grow_call (Remove name) contents I K more c image = may_grow (files_after (Remov
 grow_call Sync contents I K more c image = image
 grow_call (ListNames area) contents I K more c image = more c image
 grow_call (ReadFile name) contents I K more c image = more c image
-grow_call (WriteHidden bytes) contents I K more c image = more c image
+grow_call (WriteHidden file) contents I K more c image = more c image
 
 images_grow : (event : FolderEvent) (contents : Contents) (I K : Files → Type 0) → ((c : Files) → I c → K c) → (c : Files)
     → images_after event contents I c → images_after event contents K c

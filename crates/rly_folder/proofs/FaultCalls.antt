@@ -7,7 +7,7 @@ use Rattle.rly_folder.specs.FaultFolder.{fault_state}
 use Rattle.rly_folder.specs.FolderCalls.{is_declined, contents_after, contents_at_end, count_of, Declined, Did, Done, Failed, Faulted, FolderCall, FolderEvent}
 use Rattle.rly_folder.specs.FolderCalls.{Follows, hidden_after, images_after, images_after_call, images_at_end, images_within, is_call, is_failed_call, is_faulted, is_other, is_possible, is_sync}
 use Rattle.rly_folder.specs.FolderCalls.{is_sync_call, IsOwn, Link, ListNames, Makes, Other, Outcome, outcome_if, outcome_of, ReadFile, Refrained, Remove, Rename, Sync, WriteHidden}
-use Rattle.rly_folder.specs.FolderModel.{Contents, Files, FolderState}
+use Rattle.rly_folder.specs.FolderModel.{Contents, File, Files, FolderState}
 use Rattle.rly_folder.specs.declared.fault_folder.FaultFolder.{FaultFolder}
 use Rattle.rly_folder.proofs.Events.{contents-append, count-append, end_joined, possible-append, within_joined}
 
@@ -74,12 +74,12 @@ not_declined true is = cc
 not_declined false is = refl
 
 -- the images after a call are among those after the same call, failed
-failed_grows : (call : FolderCall) (contents : Contents) (done : Bool) (hidden : Option (List ℕ)) → is_sync call ≡ false
+failed_grows : (call : FolderCall) (contents : Contents) (done : Bool) (hidden : Option File) → is_sync call ≡ false
     → is_possible (Done call) contents ≡ true → (I : Files → Type 0) (c : Files)
     → images_after_call call contents I c → images_after (Failed call done hidden) contents I c
 failed_grows (ListNames area) contents done hidden quiet free I c image = inl image
 failed_grows (ReadFile name) contents done hidden quiet free I c image = inl image
-failed_grows (WriteHidden bytes) contents done hidden quiet free I c image = inl image
+failed_grows (WriteHidden file) contents done hidden quiet free I c image = inl image
 failed_grows (Link to) contents done hidden quiet free I c image = inr (not_declined (is_declined (Link to) contents) free, image)
 failed_grows (Rename from to) contents done hidden quiet free I c image = inr (not_declined (is_declined (Rename from to) contents) free, image)
 failed_grows (Remove name) contents done hidden quiet free I c image = inr (not_declined (is_declined (Remove name) contents) free, image)
@@ -132,7 +132,7 @@ module _ {F : Type 0} (state : F → FolderState) (old new : FaultFolder F) wher
       → Makes (fault_state state) call Faulted old new
   fault_made call Did quiet made tallied = ⊎_elim
       (λ one. let seen : Contents = contents_at_end one.others (state old.inner).seen in
-      let hidden : Option (List ℕ) = hidden_after call seen.hidden in
+      let hidden : Option File = hidden_after call seen.hidden in
       one_event call Faulted one.others (Failed call true hidden) one.are_others (true, hidden, refl) tallied made.leads.honest
       (λ h. follows_last (state old.inner) (state new.inner) one.others (Done call) (Failed call true hidden) (λ free. free) refl (failed_grows call seen true hidden quiet)
       (rw one.is_own at (rw one.events_are at (made.leads.follows h)))))

@@ -5,7 +5,7 @@ use Rattle.rly_folder.specs.FolderCalls.{contents_after, contents_at_end, count_
 use Rattle.rly_folder.specs.FolderCalls.{images_after, images_after_call, images_within, is_call, is_failed_call, is_sync_call, Leads, Link, ListNames, Makes, MayBeMade}
 use Rattle.rly_folder.specs.FolderCalls.{Other, ReadFile, Remove, Rename, Sync, WriteHidden}
 use Rattle.rly_folder.specs.FolderLaws.{Had, HasHad}
-use Rattle.rly_folder.specs.FolderModel.{Consistent, Contents, Files, FolderState, LeavesOnly, Settled, with_file}
+use Rattle.rly_folder.specs.FolderModel.{Consistent, Contents, File, Files, FolderState, LeavesOnly, Settled, with_file}
 use Rattle.rly_folder.specs.Names.{is_same_name}
 use Rattle.rly_folder.specs.declared.name.Name.{Name}
 use Rattle.rly_folder.proofs.Events.{contents-append, count-append, end_grows, end_joined, possible-append, within_grows, within_joined, within_start}
@@ -66,21 +66,21 @@ any_moment a b events leads settled =
 -- ---- each name has what it had
 
 -- the values that an image may have under a name
-module _ (contents : Contents) (P : Name → Option (List ℕ) → Type 0) where
+module _ (contents : Contents) (P : Name → Option File → Type 0) where
   -- those of before, or what is seen after an event
-  abbrev Now : Contents → Name → Option (List ℕ) → Type 0
+  abbrev Now : Contents → Name → Option File → Type 0
   Now after name file = P name file ⊎ (after.files name ≡ file)
 
-  pick : (same : Bool) (file seen old : Option (List ℕ)) (Q : Option (List ℕ) → Type 0) → Q old
+  pick : (same : Bool) (file seen old : Option File) (Q : Option File → Type 0) → Q old
       → Q (if same then file else old) ⊎ ((if same then file else seen) ≡ (if same then file else old))
   pick true file seen old Q here = inr refl
   pick false file seen old Q here = inl here
 
-  one_file : (name : Name) (file : Option (List ℕ)) (d : Files) (other : Name) → P other (d other)
+  one_file : (name : Name) (file : Option File) (d : Files) (other : Name) → P other (d other)
       → P other (with_file name file d other) ⊎ (with_file name file contents.files other ≡ with_file name file d other)
   one_file name file d other here = pick (is_same_name other name) file (contents.files other) (d other) (P other) here
 
-  two_files : (to from : Name) (file : Option (List ℕ)) (d : Files) (other : Name) → P other (d other)
+  two_files : (to from : Name) (file : Option File) (d : Files) (other : Name) → P other (d other)
       → P other (with_file to file (with_file from None d) other)
       ⊎ (with_file to file (with_file from None contents.files) other ≡ with_file to file (with_file from None d) other)
   two_files to from file d other here = both (is_same_name other to) (is_same_name other from)
@@ -101,7 +101,7 @@ module _ (contents : Contents) (P : Name → Option (List ℕ) → Type 0) where
       → images_after_call call contents I c → (name : Name) → Now (contents_after (Done call) contents) name (c name)
   after_call (ListNames area) I c known image name = inl (known c image name)
   after_call (ReadFile file) I c known image name = inl (known c image name)
-  after_call (WriteHidden bytes) I c known image name = inl (known c image name)
+  after_call (WriteHidden file) I c known image name = inl (known c image name)
   after_call (Link to) I c known image name = made_or_not _ I (contents_after (Done (Link to)) contents) c known (λ d other here. one_file to contents.hidden d other here) image name
   after_call (Rename from to) I c known image name = made_or_not _ I (contents_after (Done (Rename from to)) contents) c known (λ d other here. two_files to from (contents.files from) d other here) image name
   after_call (Remove file) I c known image name = made_or_not _ I (contents_after (Done (Remove file)) contents) c known (λ d other here. one_file file None d other here) image name
@@ -114,7 +114,7 @@ module _ (contents : Contents) (P : Name → Option (List ℕ) → Type 0) where
   after_event (Failed call done hidden) sound I c known image name = cc
   after_event (Other file bytes) sound I c known image name = made_or_not _ I (contents_after (Other file bytes) contents) c known (λ d other here. one_file file bytes d other here) image name
 
-had_first : (events : List FolderEvent) (contents : Contents) (name : Name) (file : Option (List ℕ)) → contents.files name ≡ file → Had events contents name file
+had_first : (events : List FolderEvent) (contents : Contents) (name : Name) (file : Option File) → contents.files name ≡ file → Had events contents name file
 had_first [] contents name file is = is
 had_first (event ∷ events) contents name file is = inl is
 
@@ -126,7 +126,7 @@ none_failed event events none = split (is_failed_call event) (count_of is_failed
     split true n none = absurd (omega (arith, none))
     split false n none = (refl, omega (arith, none))
 
-had_within : (events : List FolderEvent) (contents : Contents) (I : Files → Type 0) (P : Name → Option (List ℕ) → Type 0) (c : Files) → count_of is_failed_call events ≡ 0
+had_within : (events : List FolderEvent) (contents : Contents) (I : Files → Type 0) (P : Name → Option File → Type 0) (c : Files) → count_of is_failed_call events ≡ 0
     → ((d : Files) → I d → (name : Name) → P name (d name)) → images_within events contents I c → (name : Name) → P name (c name) ⊎ Had events contents name (c name)
 had_within [] contents I P c none known image name = inl (known c image name)
 had_within (event ∷ events) contents I P c none known image name = let parts = none_failed event events none in

@@ -1,15 +1,16 @@
 -- The calls of a folder in memory, from its record.
 use Rattle.std.proofs.Common.{[], arith, Bool, Err, false, if◌then◌else◌, inl, inr, length, List, None, option_map, Ok, Option, refl, Some, subst, sym}
-use Rattle.std.proofs.Common.{Global, is_none, is_ok, is_some, OnErr, OnOk, Result, Vec, ◌||◌, take, true, ℕ, ⊎_elim, ◌++◌, ◌+◌, ◌∷◌, ◌≡◌, ◌≤◌, ◌⊎◌, ◌↔◌}
+use Rattle.std.proofs.Common.{is_none, is_ok, is_some, OnErr, OnOk, Result, ◌||◌, take, true, ℕ, ⊎_elim, ◌++◌, ◌+◌, ◌∷◌, ◌≡◌, ◌≤◌, ◌⊎◌, ◌↔◌}
 use Rattle.std.proofs.lemmas.Bool.{cases_lt}
 use Rattle.std.proofs.lemmas.List.{length_push, take-append-le}
 use Rattle.rly_folder.specs.FolderCalls.{contents_after, Declined, Done, Failed, Faulted, FolderCall, FolderEvent, Follows, images_after, is_call, is_declined, Did, Link, Refrained, Remove, Rename, Sync, WriteHidden}
 use Rattle.rly_folder.specs.FolderCalls.{is_failed_call, is_possible, is_sync, is_sync_call, Leads, Makes, MayBeMade, Other, outcome_if}
-use Rattle.rly_folder.specs.FolderModel.{Contents, Files, FolderState, Settled, with_file}
+use Rattle.rly_folder.specs.FolderModel.{as_file, Contents, File, Files, FolderState, Settled, with_file}
 use Rattle.rly_folder.specs.HelpersFolder.{consistent_of, from_last}
 use Rattle.rly_folder.specs.MemFolder.{mem_state, recorded_state}
 use Rattle.rly_folder.specs.Record.{files_of, files_with, images_with, IsImage, no_files, WasImage}
 use Rattle.rly_folder.specs.declared.counts.Counts.{Counts}
+use Rattle.rly_folder.specs.declared.folder_file.FolderFile.{FolderFile}
 use Rattle.rly_folder.specs.declared.mem.MemFolder.{MemFolder}
 use Rattle.rly_folder.specs.declared.name.Name.{Name}
 use Rattle.rly_folder.specs.declared.record.Event.{Event}
@@ -17,7 +18,7 @@ use Rattle.rly_folder.specs.declared.record.Event.TheVariants.{Moved, Put, Synce
 use Rattle.rly_folder.proofs.Events.{makes_one}
 use Rattle.rly_folder.proofs.RecordLemmas.{files-append, images-append}
 
-abbrev pub held : List Event → Option (List ℕ) → Contents
+abbrev pub held : List Event → Option File → Contents
 held events hidden = record { files = files_of events; hidden = hidden }
 
 -- ---- one more event
@@ -50,7 +51,7 @@ module _ (events : List Event) (event : Event) where
 -- ---- one event of the folder
 
 -- nothing was recorded
-pub follows_same : (events then_events : List Event) (hidden then_hidden : Option (List ℕ)) (counts then_counts : Counts) (event : FolderEvent)
+pub follows_same : (events then_events : List Event) (hidden then_hidden : Option File) (counts then_counts : Counts) (event : FolderEvent)
     → then_events ≡ events → is_possible event (held events hidden) ≡ true → held events then_hidden ≡ contents_after event (held events hidden)
     → ((c : Files) → IsImage events c → images_after event (held events hidden) (IsImage events) c)
     → Follows (event ∷ []) (recorded_state events hidden counts) (recorded_state then_events then_hidden then_counts)
@@ -65,7 +66,7 @@ follows_same events then_events hidden then_hidden counts then_counts event same
     })
 
 -- a change was recorded
-pub follows_more : (events then_events : List Event) (change : Event) (hidden then_hidden : Option (List ℕ)) (counts then_counts : Counts) (event : FolderEvent)
+pub follows_more : (events then_events : List Event) (change : Event) (hidden then_hidden : Option File) (counts then_counts : Counts) (event : FolderEvent)
     → then_events ≡ events ++ change ∷ [] → is_possible event (held events hidden) ≡ true
     → (let seen : Contents = record { files = files_with change (files_of events); hidden = then_hidden } in seen ≡ contents_after event (held events hidden))
     → ((c : Files) → images_with change (files_of events) (IsImage events) c → images_after event (held events hidden) (IsImage events) c)
@@ -91,8 +92,8 @@ leads_one event calls failures syncs honest follows = record {
   follows = follows;
 }
 
-abbrev hidden_of : MemFolder → Option (List ℕ)
-hidden_of folder = option_map (λ bytes. bytes.items) folder.hidden
+abbrev hidden_of : MemFolder → Option File
+hidden_of folder = option_map as_file folder.hidden
 
 -- the counters after a call
 pub record Tallied (sync failed : Bool) (a b : MemFolder) : Type 0 where
@@ -141,7 +142,7 @@ module _ (a b : MemFolder) where
       (λ honest. follows_more a.events.items b.events.items change (hidden_of a) (hidden_of b) a.counts b.counts (Done call) same (rw possible refl) after images))
 
   -- another program's change
-  pub mem_other : (change : Event) (name : _) (file : Option (List ℕ)) → b.events.items ≡ a.events.items ++ change ∷ [] → hidden_of b ≡ hidden_of a
+  pub mem_other : (change : Event) (name : _) (file : Option File) → b.events.items ≡ a.events.items ++ change ∷ [] → hidden_of b ≡ hidden_of a
       → b.counts ≡ a.counts → ((files : Files) → files_with change files ≡ with_file name file files)
       → ((c : Files) → images_with change (files_of a.events.items) (IsImage a.events.items) c → MayBeMade (with_file name file) (IsImage a.events.items) c)
       → Leads (Other name file ∷ []) (mem_state a) (mem_state b)
@@ -149,13 +150,13 @@ module _ (a b : MemFolder) where
       leads_one (Other name file) (rw counts (omega arith)) (rw counts (omega arith)) (rw counts (omega arith)) (λ h. h, λ h. h)
       (λ honest. follows_more a.events.items b.events.items change (hidden_of a) (hidden_of b) a.counts b.counts (Other name file) same refl (rw (hidden, changes (files_of a.events.items)) refl) images)
 
-  pub mem_linked : (to : Name) (file : Vec ℕ Global) → a.hidden ≡ Some file → is_some (files_of a.events.items to) ≡ false
+  pub mem_linked : (to : Name) (file : FolderFile) → a.hidden ≡ Some file → is_some (files_of a.events.items to) ≡ false
       → b.events.items ≡ a.events.items ++ Put to file ∷ [] → b.hidden ≡ None → Tallied false false a b → Makes mem_state (Link to) Did a b
   mem_linked to file had free same left tallied =
-      let hidden : hidden_of a ≡ Some file.items = rw had refl in
+      let hidden : hidden_of a ≡ Some (as_file file) = rw had refl in
       mem_changed (Link to) (Put to file) same (rw (hidden, free) refl) (rw (hidden, left) refl) (λ c image. rw hidden image) tallied
 
-  pub mem_renamed : (from to : Name) (file : Vec ℕ Global) → Some file.items ≡ files_of a.events.items from
+  pub mem_renamed : (from to : Name) (file : FolderFile) → Some (as_file file) ≡ files_of a.events.items from
       → b.events.items ≡ a.events.items ++ Moved from to file ∷ [] → b.hidden ≡ a.hidden → Tallied false false a b → Makes mem_state (Rename from to) Did a b
   mem_renamed from to file had same left tallied =
       mem_changed (Rename from to) (Moved from to file) same (rw (← had) refl) (rw (left, ← had) refl) (λ c image. rw (← had) image) tallied
@@ -176,12 +177,12 @@ module _ (a b : MemFolder) where
   mem_sync (Ok done) pushed same left calls failures syncs = mem_synced pushed left (record { calls = calls; failures = failures; syncs = syncs })
   mem_sync (Err fault) pushed same left calls failures syncs = mem_failed Sync same (record { calls = calls; failures = failures; syncs = syncs })
 
-  abbrev pub is_known : List ℕ → Type 0
-  is_known bytes = hidden_of b ≡ Some bytes
+  abbrev pub is_known : File → Type 0
+  is_known file = hidden_of b ≡ Some file
 
-  pub mem_written : (bytes : List ℕ) → is_known bytes → b.events.items ≡ a.events.items → Tallied false false a b
-      → Makes mem_state (WriteHidden bytes) Did a b
-  mem_written bytes known same tallied = mem_done (WriteHidden bytes) same refl (rw known refl) (λ c image. image) tallied
+  pub mem_written : (file : File) → is_known file → b.events.items ≡ a.events.items → Tallied false false a b
+      → Makes mem_state (WriteHidden file) Did a b
+  mem_written file known same tallied = mem_done (WriteHidden file) same refl (rw known refl) (λ c image. image) tallied
 
   pub link_taken : (to : Name) → is_some (files_of a.events.items to) ≡ true → b.events.items ≡ a.events.items → b.hidden ≡ a.hidden
       → Tallied false false a b → Makes mem_state (Link to) Refrained a b
@@ -203,12 +204,12 @@ module _ (a b : MemFolder) where
       → images_with change (files_of a.events.items) (IsImage a.events.items) c → IsImage b.events.items c
   exact change same c image = rw same (more_image a.events.items change c image)
 
-  pub link_exact : (to : Name) (file : Vec ℕ Global) → a.hidden ≡ Some file → b.events.items ≡ a.events.items ++ Put to file ∷ [] → (c : Files)
+  pub link_exact : (to : Name) (file : FolderFile) → a.hidden ≡ Some file → b.events.items ≡ a.events.items ++ Put to file ∷ [] → (c : Files)
       → images_after (Done (Link to)) seen (IsImage a.events.items) c → IsImage b.events.items c
   link_exact to file had same c image = exact (Put to file) same c
-      (let hidden : hidden_of a ≡ Some file.items = rw had refl in rw hidden at image)
+      (let hidden : hidden_of a ≡ Some (as_file file) = rw had refl in rw hidden at image)
 
-  pub rename_exact : (from to : Name) (file : Vec ℕ Global) → Some file.items ≡ files_of a.events.items from
+  pub rename_exact : (from to : Name) (file : FolderFile) → Some (as_file file) ≡ files_of a.events.items from
       → b.events.items ≡ a.events.items ++ Moved from to file ∷ [] → (c : Files)
       → images_after (Done (Rename from to)) seen (IsImage a.events.items) c → IsImage b.events.items c
   rename_exact from to file had same c image = exact (Moved from to file) same c (rw (← had) at image)

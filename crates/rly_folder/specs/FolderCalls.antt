@@ -2,7 +2,7 @@
 use Rattle.std.specs.Prelude.{◌≡◌, ◌⊎◌, ◌↔◌, ◌≤◌, ◌+◌, ◌||◌, ◌&&◌, ℕ, Bool, true, false, not, if◌then◌else◌}
 use Rattle.std.specs.Prelude.{List, [], ◌∷◌, ◌++◌, Option, None, Some, is_none, is_some, Result, Ok, Err}
 use Rattle.std.specs.List.{list_all}
-use Rattle.rly_folder.specs.FolderModel.{Contents, Files, FolderState, IsSpent, with_file}
+use Rattle.rly_folder.specs.FolderModel.{Contents, File, Files, FolderState, IsSpent, with_file}
 use Rattle.rly_folder.specs.declared.name.Area.{Area}
 use Rattle.rly_folder.specs.declared.name.Name.{Name}
 
@@ -10,8 +10,8 @@ use Rattle.rly_folder.specs.declared.name.Name.{Name}
 pub data FolderCall : Type 0 where
   ListNames : (area : Area) → FolderCall
   ReadFile : (name : Name) → FolderCall
-  -- these bytes into the hidden file, which replaces an earlier one
-  WriteHidden : (bytes : List ℕ) → FolderCall
+  -- the hidden file is this one, and replaces an earlier one
+  WriteHidden : (file : File) → FolderCall
   -- the hidden file gets a name
   Link : (to : Name) → FolderCall
   Rename : (from to : Name) → FolderCall
@@ -22,7 +22,7 @@ pub data FolderCall : Type 0 where
 abbrev pub is_declined : FolderCall → Contents → Bool
 is_declined (ListNames area) contents = false
 is_declined (ReadFile name) contents = false
-is_declined (WriteHidden bytes) contents = false
+is_declined (WriteHidden file) contents = false
 is_declined (Link to) contents = is_none contents.hidden || is_some (contents.files to)
 is_declined (Rename from to) contents = is_none (contents.files from)
 is_declined (Remove name) contents = is_none (contents.files name)
@@ -32,16 +32,16 @@ is_declined Sync contents = false
 abbrev pub files_after : FolderCall → Contents → Files → Files
 files_after (ListNames area) contents files = files
 files_after (ReadFile name) contents files = files
-files_after (WriteHidden bytes) contents files = files
+files_after (WriteHidden file) contents files = files
 files_after (Link to) contents files = with_file to contents.hidden files
 files_after (Rename from to) contents files = with_file to (contents.files from) (with_file from None files)
 files_after (Remove name) contents files = with_file name None files
 files_after Sync contents files = files
 
-abbrev pub hidden_after : FolderCall → Option (List ℕ) → Option (List ℕ)
+abbrev pub hidden_after : FolderCall → Option File → Option File
 hidden_after (ListNames area) hidden = hidden
 hidden_after (ReadFile name) hidden = hidden
-hidden_after (WriteHidden bytes) hidden = Some bytes
+hidden_after (WriteHidden file) hidden = Some file
 hidden_after (Link to) hidden = None
 hidden_after (Rename from to) hidden = hidden
 hidden_after (Remove name) hidden = hidden
@@ -54,9 +54,9 @@ pub data FolderEvent : Type 0 where
   Declined : (call : FolderCall) → FolderEvent
   -- the call failed: the station sees its change done or not, not done if it had to be declined, and has to write the
   -- hidden file again
-  Failed : (call : FolderCall) (done : Bool) (hidden : Option (List ℕ)) → FolderEvent
+  Failed : (call : FolderCall) (done : Bool) (hidden : Option File) → FolderEvent
   -- another program put this file under a name, or removed the name's file
-  Other : (name : Name) (file : Option (List ℕ)) → FolderEvent
+  Other : (name : Name) (file : Option File) → FolderEvent
 
 abbrev pub contents_after : FolderEvent → Contents → Contents
 contents_after (Done call) contents =
@@ -75,7 +75,7 @@ MayBeMade change before image = before image ⊎ ((d : Files) × before d × (im
 abbrev pub images_after_call : FolderCall → Contents → (Files → Type 0) → Files → Type 0
 images_after_call (ListNames area) contents before = before
 images_after_call (ReadFile name) contents before = before
-images_after_call (WriteHidden bytes) contents before = before
+images_after_call (WriteHidden file) contents before = before
 images_after_call (Link to) contents before = MayBeMade (files_after (Link to) contents) before
 images_after_call (Rename from to) contents before = MayBeMade (files_after (Rename from to) contents) before
 images_after_call (Remove name) contents before = MayBeMade (files_after (Remove name) contents) before
@@ -136,7 +136,7 @@ is_failed_call (Other name file) = false
 abbrev pub is_sync : FolderCall → Bool
 is_sync (ListNames area) = false
 is_sync (ReadFile name) = false
-is_sync (WriteHidden bytes) = false
+is_sync (WriteHidden file) = false
 is_sync (Link to) = false
 is_sync (Rename from to) = false
 is_sync (Remove name) = false
@@ -196,7 +196,7 @@ outcome_of (Err fault) = Faulted
 abbrev pub IsOwn : FolderCall → Outcome → FolderEvent → Type 0
 IsOwn call Did event = event ≡ Done call
 IsOwn call Refrained event = event ≡ Declined call
-IsOwn call Faulted event = (done : Bool) × (hidden : Option (List ℕ)) × (event ≡ Failed call done hidden)
+IsOwn call Faulted event = (done : Bool) × (hidden : Option File) × (event ≡ Failed call done hidden)
 
 abbrev pub is_other : FolderEvent → Bool
 is_other event = not (is_call event)

@@ -1,11 +1,11 @@
 -- What a name had over a list of events.
-use Rattle.std.specs.Prelude.{◌≡◌, ◌⊎◌, ℕ, List, [], ◌∷◌, Option}
+use Rattle.std.specs.Prelude.{◌≡◌, ◌⊎◌, List, [], ◌∷◌, Option}
 use Rattle.rly_folder.specs.FolderCalls.{FolderEvent, contents_after}
-use Rattle.rly_folder.specs.FolderModel.{Contents, Files}
+use Rattle.rly_folder.specs.FolderModel.{Contents, File, Files}
 use Rattle.rly_folder.specs.declared.name.Name.{Name}
 
 -- the name had this file, or none, before an event of the list or after the last one
-abbrev pub Had : List FolderEvent → Contents → Name → Option (List ℕ) → Type 0
+abbrev pub Had : List FolderEvent → Contents → Name → Option File → Type 0
 Had [] contents name file = contents.files name ≡ file
 Had (event ∷ events) contents name file =
     (contents.files name ≡ file) ⊎ Had events (contents_after event contents) name file

@@ -1,22 +1,38 @@
 -- The state of a folder in contracts (docs/DEFINITIONS.md, "The folder model").
-use Rattle.std.specs.Prelude.{◌≡◌, ◌⊎◌, ◌↔◌, ◌≤◌, ◌-◌, ◌^◌, ℕ, List, Option, IsSome, Contains, if◌then◌else◌}
+use Rattle.std.specs.Prelude.{◌≡◌, ◌⊎◌, ◌↔◌, ◌≤◌, ◌-◌, ◌^◌, ℕ, List, Option, IsSome, Contains, if◌then◌else◌, take}
 use Rattle.std.specs.List.Sorted.{IsStrictlyIncreasing}
 use Rattle.rly_folder.specs.Names.{is_same_name, name_of}
+use Rattle.rly_folder.specs.declared.folder_file.FolderFile.{FolderFile}
 use Rattle.rly_folder.specs.declared.name.Area.{Area}
 use Rattle.rly_folder.specs.declared.name.Name.{Name}
 
--- the content of each name's file: none if the name isn't there
+-- a file: its bytes, and the age limit of its datagram in microseconds, 0 if it has none
+pub record File : Type 0 where
+  pub bytes : List ℕ
+  pub limit : ℕ
+
+abbrev pub file_with : List ℕ → ℕ → File
+file_with bytes limit = record { bytes = bytes; limit = limit }
+
+abbrev pub as_file : FolderFile → File
+as_file file = file_with file.bytes.items file.limit
+
+-- the first bytes of a file, and its limit
+abbrev pub front_of : ℕ → File → File
+front_of most file = file_with (take most file.bytes) file.limit
+
+-- the file of each name: none if the name isn't there
 abbrev pub Files : Type 0
-Files = Name → Option (List ℕ)
+Files = Name → Option File
 
 -- the files, with this one under a name, or none
-abbrev pub with_file : Name → Option (List ℕ) → Files → Files
+abbrev pub with_file : Name → Option File → Files → Files
 with_file name file files = λ other. if is_same_name other name then file else files other
 
 -- what the station sees: the files, and its hidden file, if that was written whole
 pub record Contents : Type 0 where
   pub files : Files
-  pub hidden : Option (List ℕ)
+  pub hidden : Option File
 
 -- the state of a folder in contracts
 pub record FolderState : Type 1 where

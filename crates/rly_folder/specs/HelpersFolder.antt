@@ -2,7 +2,7 @@
 use Rattle.std.specs.Prelude.{◌≡◌, ◌≤◌, ℕ, List, [], ◌∷◌, length, take, refl, Option, option_map}
 use Rattle.std.proofs.Common.{arith, inr, subst, sym}
 use Rattle.std.proofs.lemmas.List.{take_all}
-use Rattle.rly_folder.specs.FolderModel.{Consistent, Files}
+use Rattle.rly_folder.specs.FolderModel.{Consistent, File, Files, as_file}
 use Rattle.rly_folder.specs.MemFolder.{mem_state, recorded_state}
 use Rattle.rly_folder.specs.Record.{IsImage, WasImage, files_from, files_with, images_from, images_with, no_files}
 use Rattle.rly_folder.specs.declared.counts.Counts.{Counts}
@@ -39,7 +39,7 @@ counts_now events t c le image =
 pub only_now : (events : List Event) (c : Files) → WasImage events (length events) c → IsImage events c
 only_now events c was = from_last events was.0 was.1 c was.3
 
-pub consistent_of : (events : List Event) (hidden : Option (List ℕ)) (counts : Counts)
+pub consistent_of : (events : List Event) (hidden : Option File) (counts : Counts)
     → Consistent (recorded_state events hidden counts)
 consistent_of events hidden counts = record {
   seen_is_image = seen_is_image events no_files (λ image. image ≡ no_files) refl;
@@ -49,7 +49,7 @@ consistent_of events hidden counts = record {
 
 pub mem_consistent : (folder : MemFolder) → Consistent (mem_state folder)
 mem_consistent folder =
-    consistent_of folder.events.items (option_map (λ bytes. bytes.items) folder.hidden) folder.counts
+    consistent_of folder.events.items (option_map as_file folder.hidden) folder.counts
 
 pub mem_calls_lead : (folder : MemFolder)
     → (folder.counts.failures ≤ folder.counts.calls) × (folder.counts.syncs ≤ folder.counts.calls)

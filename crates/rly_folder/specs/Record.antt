@@ -3,7 +3,7 @@ use Rattle.std.specs.Prelude.{◌≡◌, ◌==◌, ◌≤◌, ◌&&◌, ℕ, suc
 use Rattle.std.specs.Prelude.{List, [], ◌∷◌, ◌++◌, drop, length, take, Option, None, Some, is_some}
 use Rattle.std.specs.Option.{option_and_then}
 use Rattle.rly_folder.specs.FolderCalls.{MayBeMade}
-use Rattle.rly_folder.specs.FolderModel.{Files, with_file}
+use Rattle.rly_folder.specs.FolderModel.{Files, as_file, with_file}
 use Rattle.rly_folder.specs.Names.{is_same_name, name_of}
 use Rattle.rly_folder.specs.declared.name.Area.{Area}
 use Rattle.rly_folder.specs.declared.name.Name.{Name}
@@ -15,9 +15,9 @@ no_files = λ name. None
 
 -- what an event makes of some files
 abbrev pub files_with : Event → Files → Files
-files_with (Put name file) files = with_file name (Some file.items) files
+files_with (Put name file) files = with_file name (Some (as_file file)) files
 files_with (Taken name) files = with_file name None files
-files_with (Moved from to file) files = with_file to (Some file.items) (with_file from None files)
+files_with (Moved from to file) files = with_file to (Some (as_file file)) (with_file from None files)
 files_with Synced files = files
 files_with Undone files = files
 

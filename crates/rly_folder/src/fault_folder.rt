@@ -1,10 +1,10 @@
 // A folder that fails at a chosen call.
-ghost use Rattle.std.specs.Prelude.{◌≡◌, ◌<◌, ◌+◌, ◌-◌, ◌^◌, false, IfOk, IsErr, IsTrue, is_ok, option_map, take};
-ghost use Rattle.rly_folder.specs.FolderModel.{IsListing, IsSpent};
+ghost use Rattle.std.specs.Prelude.{◌≡◌, ◌<◌, ◌+◌, ◌-◌, ◌^◌, false, IfOk, IsErr, IsTrue, is_ok, option_map};
+ghost use Rattle.rly_folder.specs.FolderModel.{IsListing, IsSpent, as_file, file_with, front_of};
 ghost use Rattle.rly_folder.specs.FolderCalls.{Link, ListNames, Makes, ReadFile, Remove, Rename, Sync, WriteHidden};
 ghost use Rattle.rly_folder.specs.FolderCalls.{Outcome, outcome_if, outcome_of};
 
-use crate::{Area, Counts, Folder, FolderFault, Name};
+use crate::{Area, Counts, Folder, FolderFault, FolderFile, Name};
 
 /// The behaviour of a folder after the call chosen to fail.
 #[derive(Clone, Copy, PartialEq, Eq, Drop)]
@@ -103,10 +103,10 @@ impl<F: Folder> Folder for FaultFolder<F> {
         outcome
     }
 
-    fn read(&mut self, name: Name, most: usize) -> Result<Option<Vec<u8>>, FolderFault>
+    fn read(&mut self, name: Name, most: usize) -> Result<Option<FolderFile>, FolderFault>
         ensures file { (fault_state F.state self.old).honest
-            → IfOk result (λ found. option_map (λ bytes. bytes.items) found
-            ≡ option_map (take most) ((fault_state F.state self.new).seen.files name)) }
+            → IfOk result (λ found. option_map as_file found
+            ≡ option_map (front_of most) ((fault_state F.state self.new).seen.files name)) }
         ensures trace { Makes (fault_state F.state) (ReadFile name) (outcome_if (is_ok result)) self.old self.new }
         // The chosen call fails and does nothing; any other is made once on the folder inside, with the same result.
         ensures chosen { IsTrue (fails_next self.old) → IsErr result }
@@ -127,13 +127,14 @@ impl<F: Folder> Folder for FaultFolder<F> {
         outcome
     }
 
-    fn write(&mut self, bytes: &[u8]) -> Result<(), FolderFault>
-        ensures trace { Makes (fault_state F.state) (WriteHidden bytes.now) (outcome_if (is_ok result))
-            self.old self.new }
+    fn write(&mut self, bytes: &[u8], limit: u64) -> Result<(), FolderFault>
+        requires { limit < 2 ^ 40 }
+        ensures trace { Makes (fault_state F.state) (WriteHidden (file_with bytes.now limit))
+            (outcome_if (is_ok result)) self.old self.new }
         // The chosen call fails and does nothing; any other is made once on the folder inside, with the same result.
         ensures chosen { IsTrue (fails_next self.old) → IsErr result }
         ensures passed { fails_next self.old ≡ false → ¬ IsSpent (fault_state F.state self.old)
-            → Makes F.state (WriteHidden bytes.now) (outcome_if (is_ok result))
+            → Makes F.state (WriteHidden (file_with bytes.now limit)) (outcome_if (is_ok result))
             (inner_of self.old) (inner_of self.new) }
         ensures nothing_done { IsTrue (fails_next self.old) → inner_of self.new ≡ inner_of self.old }
         ensures plan { fault_plan self.new ≡ fault_plan self.old }
@@ -145,7 +146,7 @@ impl<F: Folder> Folder for FaultFolder<F> {
             self.counts.count(false, true);
             return Err(FolderFault);
         }
-        let outcome = self.inner.write(bytes);
+        let outcome = self.inner.write(bytes, limit);
         self.counts.count(false, outcome.is_err());
         outcome
     }

@@ -1,10 +1,10 @@
 // The trait of a folder, with its ghost state for contracts.
-ghost use Rattle.std.specs.Prelude.{◌≡◌, ◌≤◌, IfOk, is_ok, option_map, take};
-ghost use Rattle.rly_folder.specs.FolderModel.{Consistent, FolderState, IsListing};
+ghost use Rattle.std.specs.Prelude.{◌≡◌, ◌≤◌, ◌<◌, ◌^◌, IfOk, is_ok, option_map};
+ghost use Rattle.rly_folder.specs.FolderModel.{Consistent, FolderState, IsListing, as_file, file_with, front_of};
 ghost use Rattle.rly_folder.specs.FolderCalls.{Link, ListNames, Makes, ReadFile, Remove, Rename, Sync, WriteHidden};
 ghost use Rattle.rly_folder.specs.FolderCalls.{outcome_if, outcome_of};
 
-use crate::{Area, Name};
+use crate::{Area, FolderFile, Name};
 
 /// A call of a folder failed. The call's contract states what it left.
 #[derive(Clone, Copy, Debug, PartialEq, Eq, Drop)]
@@ -25,18 +25,21 @@ pub trait Folder {
             → IfOk result (λ numbers. IsListing area (state self.new).seen.files numbers.items) }
         ensures trace { Makes state (ListNames area) (outcome_if (is_ok result)) self.old self.new };
 
-    /// Returns the first `most` bytes of a file, `None` if it isn't there. A caller that asks for one byte more than it
-    /// takes sees which files are too long.
-    fn read(&mut self, name: Name, most: usize) -> Result<Option<Vec<u8>>, FolderFault>
+    /// Returns the first `most` bytes of a file, and its limit; `None` if it isn't there. A caller that asks for one byte
+    /// more than it takes sees which files are too long.
+    fn read(&mut self, name: Name, most: usize) -> Result<Option<FolderFile>, FolderFault>
         ensures file { (state self.old).honest
-            → IfOk result (λ found. option_map (λ bytes. bytes.items) found
-            ≡ option_map (take most) ((state self.new).seen.files name)) }
+            → IfOk result (λ found. option_map as_file found
+            ≡ option_map (front_of most) ((state self.new).seen.files name)) }
         ensures trace { Makes state (ReadFile name) (outcome_if (is_ok result)) self.old self.new };
 
-    /// Writes the station's hidden file and makes its bytes durable. It replaces an earlier hidden file, and nothing
-    /// else sees it. After an `Err` of this call or of any other, write it again before the next `link`.
-    fn write(&mut self, bytes: &[u8]) -> Result<(), FolderFault>
-        ensures trace { Makes state (WriteHidden bytes.now) (outcome_if (is_ok result)) self.old self.new };
+    /// Writes the station's hidden file and makes its bytes durable. It gets its limit, in microseconds, with its name.
+    /// It replaces an earlier hidden file, and nothing else sees it. After an `Err` of this call or of any other, write it
+    /// again before the next `link`.
+    fn write(&mut self, bytes: &[u8], limit: u64) -> Result<(), FolderFault>
+        requires { limit < 2 ^ 40 }
+        ensures trace { Makes state (WriteHidden (file_with bytes.now limit)) (outcome_if (is_ok result))
+            self.old self.new };
 
     /// Gives the hidden file a name, whole. Returns false, and changes nothing, if the name is taken or no hidden file
     /// was written. Until a sync succeeds a crash may leave it without the name, after an `Err` too.

@@ -12,6 +12,7 @@
 mod counts;
 mod fault_folder;
 mod folder;
+mod folder_file;
 mod laws;
 mod mem;
 mod name;
@@ -20,6 +21,7 @@ mod record;
 pub use counts::Counts;
 pub use fault_folder::{After, FaultFolder};
 pub use folder::{Folder, FolderFault};
+pub use folder_file::FolderFile;
 pub use laws::{law_any_moment, law_joined, law_settles, law_whole_files};
 pub use mem::MemFolder;
 pub use name::{Area, Name};

@@ -1,13 +1,13 @@
 // A folder in memory.
 ghost use Rattle.std.specs.Prelude.{◌≡◌, ◌≤◌, ◌<◌, ◌+◌, ◌-◌, ◌^◌, ◌∷◌, [], Ok, Some, None, true, IfOk, IsErr, OnErr};
 ghost use Rattle.std.specs.Prelude.{◌++◌, if◌then◌else◌, is_ok, OnOk};
-ghost use Rattle.rly_folder.specs.FolderModel.{Files, Settled};
+ghost use Rattle.rly_folder.specs.FolderModel.{Files, Settled, as_file};
 ghost use Rattle.rly_folder.specs.FolderCalls.{Done, Leads, Link, Makes, Other, Remove, Rename, images_after};
 ghost use Rattle.rly_folder.specs.FolderCalls.{outcome_of};
 ghost use Rattle.rly_folder.specs.Record.{files_left, is_sync, no_files};
 
 use crate::record::{Event, copy_of, is_there, numbers_in, read_file, undo_pending};
-use crate::{Area, Counts, Folder, FolderFault, Name};
+use crate::{Area, Counts, Folder, FolderFault, FolderFile, Name};
 use std::alloc::{AllocError, Global};
 
 /// A folder in memory that meets the folder model.
@@ -16,7 +16,7 @@ pub struct MemFolder {
     alloc: Global,
     // Oldest first, and never shortened: the files, and the images of every moment, follow from it.
     events: Vec<Event>,
-    hidden: Option<Vec<u8>>,
+    hidden: Option<FolderFile>,
     counts: Counts,
 }
 
@@ -38,9 +38,9 @@ impl MemFolder {
     }
 
     /// Puts a file under a name, as another program does: it isn't counted, and replaces what had the name.
-    pub fn put(&mut self, name: Name, file: Vec<u8>) -> Result<(), AllocError>
+    pub fn put(&mut self, name: Name, file: FolderFile) -> Result<(), AllocError>
         ensures ok { OnOk result
-            (Leads (Other name (Some file.items) ∷ []) (mem_state self.old) (mem_state self.new)) }
+            (Leads (Other name (Some (as_file file)) ∷ []) (mem_state self.old) (mem_state self.new)) }
         ensures err { OnErr result (Leads [] (mem_state self.old) (mem_state self.new)) }
     {
         self.events.push(Event::Put { name, file })?;
@@ -131,7 +131,7 @@ impl Folder for MemFolder {
         }
     }
 
-    fn read(&mut self, name: Name, most: usize) -> Result<Option<Vec<u8>>, FolderFault> {
+    fn read(&mut self, name: Name, most: usize) -> Result<Option<FolderFile>, FolderFault> {
         if self.counts.is_spent() {
             return Err(FolderFault);
         }
@@ -147,13 +147,13 @@ impl Folder for MemFolder {
         }
     }
 
-    fn write(&mut self, bytes: &[u8]) -> Result<(), FolderFault> {
+    fn write(&mut self, bytes: &[u8], limit: u64) -> Result<(), FolderFault> {
         if self.counts.is_spent() {
             return Err(FolderFault);
         }
         match bytes.to_vec(self.alloc) {
-            Ok(hidden) => {
-                self.hidden = Some(hidden);
+            Ok(copy) => {
+                self.hidden = Some(FolderFile::new(copy, limit));
                 self.counts.count(false, false);
                 Ok(())
             }

@@ -1,24 +1,31 @@
 // The record of a folder in memory: its changes and syncs.
 ghost use Rattle.std.specs.Prelude.{◌≡◌, ◌≤◌, false, IfOk, if◌then◌else◌, is_some, length, option_map, slice_index_or};
-ghost use Rattle.std.specs.Prelude.{take};
-ghost use Rattle.std.specs.Option.{option_copied};
-ghost use Rattle.rly_folder.specs.FolderModel.{Files, IsListing};
+ghost use Rattle.rly_folder.specs.FolderModel.{Files, IsListing, as_file, front_of};
 ghost use Rattle.rly_folder.specs.Record.{after_crash, files_of, files_with, is_sync, listed_number, standing};
 ghost use Rattle.rly_folder.specs.Record.{synced_events};
 ghost use Rattle.rly_folder.specs.declared.record.Event.TheVariants.{Undone};
 
-use crate::{Area, Name};
+use crate::{Area, FolderFile, Name};
 use std::alloc::{AllocError, Global};
 
 /// A change of a folder in memory, or a sync.
 #[derive(Drop)]
 pub enum Event {
     /// This file got this name.
-    Put { name: Name, file: Vec<u8> },
+    Put {
+        name: Name,
+        file: FolderFile,
+    },
     /// The file of this name was removed.
-    Taken { name: Name },
+    Taken {
+        name: Name,
+    },
     /// This file got another name.
-    Moved { from: Name, to: Name, file: Vec<u8> },
+    Moved {
+        from: Name,
+        to: Name,
+        file: FolderFile,
+    },
     Synced,
     /// A change that a crash undid.
     Undone,
@@ -34,14 +41,18 @@ impl Event {
 }
 
 // Returns the file of a name after an event, from that before it.
-fn file_after<'a>(event: &'a Event, name: Name, before: Option<&'a [u8]>) -> Option<&'a [u8]>
-    ensures { (files : Files) → files name ≡ option_copied before.entry
-        → option_copied result ≡ files_with event.now files name }
+fn file_after<'a>(
+    event: &'a Event,
+    name: Name,
+    before: Option<&'a FolderFile>,
+) -> Option<&'a FolderFile>
+    ensures { (files : Files) → files name ≡ option_map (λ f. as_file f.now) before.entry
+        → option_map (λ f. as_file f.now) result ≡ files_with event.now files name }
 {
     match event {
-        Event::Put { name: to, file } if name.is(*to) => Some(file.as_slice()),
+        Event::Put { name: to, file } if name.is(*to) => Some(file),
         Event::Taken { name: from } if name.is(*from) => None,
-        Event::Moved { from: _, to, file } if name.is(*to) => Some(file.as_slice()),
+        Event::Moved { from: _, to, file } if name.is(*to) => Some(file),
         Event::Moved {
             from,
             to: _,
@@ -53,8 +64,8 @@ fn file_after<'a>(event: &'a Event, name: Name, before: Option<&'a [u8]>) -> Opt
 
 // Returns the file of a name.
 #[tactic(auto, using(crate::proofs::RecordLemmas::files_more))]
-fn file_of(events: &[Event], name: Name) -> Option<&[u8]>
-    ensures { option_copied result ≡ files_of events.now name }
+fn file_of(events: &[Event], name: Name) -> Option<&FolderFile>
+    ensures { option_map (λ f. as_file f.now) result ≡ files_of events.now name }
 {
     let mut found = None;
     for event in events {
@@ -71,31 +82,32 @@ pub fn is_there(events: &[Event], name: Name) -> bool
 }
 
 /// Returns a copy of a name's file.
-pub fn copy_of(alloc: Global, events: &[Event], name: Name) -> Result<Option<Vec<u8>>, AllocError>
-    ensures { IfOk result (λ found. option_map (λ bytes. bytes.items) found ≡ files_of events.now name) }
+pub fn copy_of(
+    alloc: Global,
+    events: &[Event],
+    name: Name,
+) -> Result<Option<FolderFile>, AllocError>
+    ensures { IfOk result (λ found. option_map as_file found ≡ files_of events.now name) }
 {
     match file_of(events, name) {
         None => Ok(None),
-        Some(file) => Ok(Some(file.to_vec(alloc)?)),
+        Some(file) => Ok(Some(file.copy(alloc)?)),
     }
 }
 
-/// Returns the first `most` bytes of a name's file.
+/// Returns the first `most` bytes of a name's file, and its limit.
 pub fn read_file(
     alloc: Global,
     events: &[Event],
     name: Name,
     most: usize,
-) -> Result<Option<Vec<u8>>, AllocError>
-    ensures { IfOk result (λ found. option_map (λ bytes. bytes.items) found
-        ≡ option_map (take most) (files_of events.now name)) }
+) -> Result<Option<FolderFile>, AllocError>
+    ensures { IfOk result (λ found. option_map as_file found
+        ≡ option_map (front_of most) (files_of events.now name)) }
 {
     match file_of(events, name) {
         None => Ok(None),
-        Some(file) => {
-            let read = &file[..most.min(file.len())];
-            Ok(Some(read.to_vec(alloc)?))
-        }
+        Some(file) => Ok(Some(file.front(alloc, most)?)),
     }
 }
 

@@ -6,7 +6,7 @@ use Rattle.std.specs.Prelude.{◌&&◌, not}
 use Rattle.rly_folder.specs.FolderCalls.{are_possible, contents_after, contents_at_end, Declined, Did, Done, Failed, Faulted, files_after, FolderCall, FolderEvent}
 use Rattle.rly_folder.specs.FolderCalls.{images_after, images_after_call, images_at_end, images_within, is_declined, is_other, is_possible, IsOneCall, IsOwn, Link, ListNames, Makes, MayBeMade, Other, Outcome}
 use Rattle.rly_folder.specs.FolderCalls.{ReadFile, Refrained, Remove, Rename, Sync, WriteHidden}
-use Rattle.rly_folder.specs.FolderModel.{Consistent, Contents, Files, FolderState, with_file}
+use Rattle.rly_folder.specs.FolderModel.{Consistent, Contents, File, Files, FolderState, with_file}
 use Rattle.rly_folder.specs.declared.name.Name.{Name}
 use Rattle.rly_folder.proofs.Events.{contents-append, end_joined, possible-append, within_joined}
 use Rattle.rly_folder_clients.specs.Holding.{Holds, Stays}
@@ -14,7 +14,7 @@ use Rattle.rly_folder_clients.specs.Runs.{gives_only, OthersGive}
 
 -- ---- lists of events
 
-pub others_left : (given : Name → Option (List ℕ) → Bool) (xs ys : List FolderEvent) → OthersGive given (xs ++ ys) → OthersGive given xs
+pub others_left : (given : Name → Option File → Bool) (xs ys : List FolderEvent) → OthersGive given (xs ++ ys) → OthersGive given xs
 others_left given [] ys all = refl
 others_left given (event ∷ xs) ys all = let parts = and_parts (gives_only given event) (list_all (gives_only given) (xs ++ ys)) all in
     let rest : list_all (gives_only given) xs ≡ true = others_left given xs ys parts.1 in rw (parts.0, rest) refl
@@ -54,7 +54,7 @@ module _ (P : Files → Type 0) where
       → (c : Files) → images_after_call call contents I c → P c
   after_call (ListNames area) contents I keeps both c image = both.1 c image
   after_call (ReadFile name) contents I keeps both c image = both.1 c image
-  after_call (WriteHidden bytes) contents I keeps both c image = both.1 c image
+  after_call (WriteHidden file) contents I keeps both c image = both.1 c image
   after_call (Link to) contents I keeps both c image = may _ I keeps both.1 c image
   after_call (Rename from to) contents I keeps both c image = may _ I keeps both.1 c image
   after_call (Remove name) contents I keeps both c image = may _ I keeps both.1 c image
@@ -92,7 +92,7 @@ module _ (P : Files → Type 0) where
   )
 
   -- the changes of other programs, and then one call
-  module _ (given : Name → Option (List ℕ) → Bool) (gives : (name : Name) (file : Option (List ℕ)) → given name file ≡ true → Keeps P (with_file name file)) where
+  module _ (given : Name → Option File → Bool) (gives : (name : Name) (file : Option File) → given name file ≡ true → Keeps P (with_file name file)) where
     pub others : (events : List FolderEvent) (contents : Contents) (I : Files → Type 0) → OthersGive given events → list_all is_other events ≡ true
         → Both P contents I → Over P events contents I
     others [] contents I kept are both = over_nil contents I both

@@ -8,7 +8,7 @@ use Rattle.std.specs.Prelude.{Err, IfErr, IfOk, if◌then◌else◌, is_err, IsE
 use Rattle.rly_daemon_reply.proofs.Flows.{begins_broken, begins_kept, begins_more}
 use Rattle.rly_daemon_reply.specs.Beginnings.{AppendsBeginning, BreaksOff}
 use Rattle.rly_folder.specs.FolderCalls.{Did, Faulted, Makes, Remove}
-use Rattle.rly_folder.specs.FolderModel.{FolderState}
+use Rattle.rly_folder.specs.FolderModel.{File, FolderState, front_of}
 use Rattle.rly_folder.specs.Names.{name_of}
 use Rattle.rly_folder.specs.declared.name.Area.TheVariants.{Out}
 use Rattle.rly_folder_clients.specs.Forms.{bytes_of, bytes_of_each, if_any}
@@ -21,19 +21,19 @@ use Rattle.rly_folder_clients.specs.declared.form.Form.{Form}
 -- ---- a file of which no more than the longest was asked
 
 -- if it is no longer it was read whole
-pub whole_file : (found file : Option (List ℕ)) → found ≡ option_map (take 65537) file → is_too_long found ≡ false → file ≡ found
+pub whole_file : (found file : Option File) → found ≡ option_map (front_of 65537) file → is_too_long found ≡ false → file ≡ found
 whole_file found None is short = sym is
-whole_file found (Some bytes) is short =
-    let cut : nat_lt 65536 (length (take 65537 bytes)) ≡ false = rw is at short in
-    rw is (rw (take_all 65537 bytes (fits bytes cut)) refl)
+whole_file found (Some file) is short =
+    let cut : nat_lt 65536 (length (take 65537 file.bytes)) ≡ false = rw is at short in
+    rw is (rw (take_all 65537 file.bytes (fits file.bytes cut)) refl)
   where
     fits : (bytes : List ℕ) → nat_lt 65536 (length (take 65537 bytes)) ≡ false → length bytes ≤ 65537
     fits bytes cut = grind (arith, nat_tests, length-take 65537 bytes)
 
-pub long_file : (found file : Option (List ℕ)) → found ≡ option_map (take 65537) file → is_too_long found ≡ true → is_too_long file ≡ true
+pub long_file : (found file : Option File) → found ≡ option_map (front_of 65537) file → is_too_long found ≡ true → is_too_long file ≡ true
 long_file found None is long = rw is at long
-long_file found (Some bytes) is long =
-    let cut : nat_lt 65536 (length (take 65537 bytes)) ≡ true = rw is at long in beyond bytes cut
+long_file found (Some file) is long =
+    let cut : nat_lt 65536 (length (take 65537 file.bytes)) ≡ true = rw is at long in beyond file.bytes cut
   where
     beyond : (bytes : List ℕ) → nat_lt 65536 (length (take 65537 bytes)) ≡ true → nat_lt 65536 (length bytes) ≡ true
     beyond bytes cut = grind (arith, nat_tests, length-take 65537 bytes)
@@ -67,7 +67,7 @@ module _ {D : Type 0} (state : D → FolderState) where
       record { steps = keeps.steps; keeping = keeps.keeping; there = there; runs = runs_joined keeps.steps _ a m b true keeps.runs (inl (b, makes, (refl, refl))) }
 
   -- one more file
-  pub each_more : (xs : List ℕ) (a m b : D) (first number : ℕ) (printed : List (List ℕ)) (last : ℕ) (one : Option (List ℕ)) → HandlesEach state first xs printed last a m
+  pub each_more : (xs : List ℕ) (a m b : D) (first number : ℕ) (printed : List File) (last : ℕ) (one : Option File) → HandlesEach state first xs printed last a m
       → Handles state last number one m b → HandlesEach state first (xs ++ number ∷ []) (printed ++ if_any one) (last_after last number one) a b
   each_more [] a m b first number printed last one each handles =
       (one, [], b, rw (each.0, append-nil (if_any one)) refl, (rw (each.2, each.1) at handles), (refl, rw each.1 refl, refl))
@@ -82,16 +82,16 @@ module _ {D : Type 0} (state : D → FolderState) where
 
 -- ---- the bytes
 
-pub bytes_append : (form : Form) (xs ys : List (List ℕ)) → bytes_of_each form (xs ++ ys) ≡ bytes_of_each form xs ++ bytes_of_each form ys
+pub bytes_append : (form : Form) (xs ys : List File) → bytes_of_each form (xs ++ ys) ≡ bytes_of_each form xs ++ bytes_of_each form ys
 bytes_append form [] ys = refl
-bytes_append form (x ∷ xs) ys = rw (bytes_append form xs ys, append_assoc (bytes_of form x) (bytes_of_each form xs) (bytes_of_each form ys)) refl
+bytes_append form (x ∷ xs) ys = rw (bytes_append form xs ys, append_assoc (bytes_of form x.bytes) (bytes_of_each form xs) (bytes_of_each form ys)) refl
 
-pub wrote_more : (form : Form) (a b c : Option (List ℕ)) (xs ys : List (List ℕ)) → Appends a b (bytes_of_each form xs) → Appends b c (bytes_of_each form ys)
+pub wrote_more : (form : Form) (a b c : Option (List ℕ)) (xs ys : List File) → Appends a b (bytes_of_each form xs) → Appends b c (bytes_of_each form ys)
     → Appends a c (bytes_of_each form (xs ++ ys))
 wrote_more form a b c xs ys one two = rw (bytes_append form xs ys) (Appends-trans a b c (bytes_of_each form xs) (bytes_of_each form ys) one two)
 
-wrote_one : (form : Form) (a b : Option (List ℕ)) (payload : List ℕ) → Appends a b (bytes_of form payload) → Appends a b (bytes_of_each form (if_any (Some payload)))
-wrote_one form a b payload one = rw (append-nil (bytes_of form payload)) one
+wrote_one : (form : Form) (a b : Option (List ℕ)) (payload : File) → Appends a b (bytes_of form payload.bytes) → Appends a b (bytes_of_each form (if_any (Some payload)))
+wrote_one form a b payload one = rw (append-nil (bytes_of form payload.bytes)) one
 
 -- ---- a payload whose output failed, at what stands behind its bytes, or at the flush
 
@@ -120,30 +120,30 @@ module _ {D : Type 0} (state : D → FolderState) (form : Form) (last number : �
     old_err (Ok is) removed = tt
     old_err (Err why) removed = (None, AtOld below removed.0 refl removed.1, (rw removed.0 (Appends-nil written)))
 
-  module _ (a m b : D) (written writes : Option (List ℕ)) (above : last < number) (payload : List ℕ) (reads : Reads state number (Some payload) a m) where
+  module _ (a m b : D) (written writes : Option (List ℕ)) (above : last < number) (payload : File) (reads : Reads state number (Some payload) a m) where
     prints : (whole : Bool) → Finishes state last number whole m b → Prints state last number payload whole a b
     prints whole finishes = record { read = m; reads = reads; finishes = finishes }
 
-    pub printed_ok : Appends written writes (bytes_of form payload) → (result : Result Bool GetFault) → IfOk result (λ is. (is ≡ true) × Finishes state last number true m b)
+    pub printed_ok : Appends written writes (bytes_of form payload.bytes) → (result : Result Bool GetFault) → IfOk result (λ is. (is ≡ true) × Finishes state last number true m b)
         → IfOk result (λ is. HandlesOne state form last number is written writes a b)
     printed_ok wrote (Ok is) kept = (Some payload, kept.0, IsNext above payload refl (prints true kept.1), wrote_one form written writes payload wrote)
     printed_ok wrote (Err why) kept = tt
 
-    pub printed_err : Appends written writes (bytes_of form payload) → (result : Result Bool GetFault) → IfErr result (λ why. (why ≡ fault.Folder) × Finishes state last number false m b)
+    pub printed_err : Appends written writes (bytes_of form payload.bytes) → (result : Result Bool GetFault) → IfErr result (λ why. (why ≡ fault.Folder) × Finishes state last number false m b)
         → IfErr result (λ why. StopsOne state form last number why written writes a b)
     printed_err wrote (Ok is) kept = tt
     printed_err wrote (Err why) kept = (Some payload, AtFinish above kept.0 payload refl (prints false kept.1), (rw kept.0 (wrote_one form written writes payload wrote)))
 
-  pub output_err : {a b : D} (written writes : Option (List ℕ)) → last < number → (payload : List ℕ) → Reads state number (Some payload) a b
-      → AppendsBeginning written writes (bytes_of form payload) → StopsOne state form last number fault.Output written writes a b
-  output_err written writes above payload reads begun = (Some payload, AtOutput above refl payload refl reads, (rw (append-nil (bytes_of form payload)) begun))
+  pub output_err : {a b : D} (written writes : Option (List ℕ)) → last < number → (payload : File) → Reads state number (Some payload) a b
+      → AppendsBeginning written writes (bytes_of form payload.bytes) → StopsOne state form last number fault.Output written writes a b
+  output_err written writes above payload reads begun = (Some payload, AtOutput above refl payload refl reads, (rw (append-nil (bytes_of form payload.bytes)) begun))
 
 -- ---- the files of a list
 
 module _ {D : Type 0} (state : D → FolderState) (form : Form) (first : ℕ) (numbers : List ℕ) (most : ℕ) where
   -- so many were handled
   pub record Handled (done last count : ℕ) (written writes : Option (List ℕ)) (old new : D) : Type 0 where
-    pub printed : List (List ℕ)
+    pub printed : List File
     pub each : HandlesEach state first (take done numbers) printed last old new
     pub count_is : count ≡ length printed
     pub within : count ≤ most
@@ -152,9 +152,9 @@ module _ {D : Type 0} (state : D → FolderState) (form : Form) (first : ℕ) (n
   pub none_handled : (written : Option (List ℕ)) (a : D) → Handled 0 first 0 written written a a
   none_handled written a = record { printed = []; each = (refl, refl, refl); count_is = refl; within = omega arith; wrote = Appends-nil written }
 
-  counted : (one : Option (List ℕ)) (is_printed : Bool) → is_printed ≡ is_some one → (if is_printed then 1 else 0) ≡ length (if_any one)
+  counted : (one : Option File) (is_printed : Bool) → is_printed ≡ is_some one → (if is_printed then 1 else 0) ≡ length (if_any one)
   counted None is_printed is = rw is refl
-  counted (Some bytes) is_printed is = rw is refl
+  counted (Some file) is_printed is = rw is refl
 
   at_most_one : (is : Bool) (count : ℕ) → count < most → count + (if is then 1 else 0) ≤ most
   at_most_one true count less = omega (arith, less)

@@ -4,7 +4,7 @@ use Rattle.std.proofs.lemmas.Bool.{and_parts}
 use Rattle.std.specs.List.{list_all}
 use Rattle.std.specs.Prelude.{not}
 use Rattle.rly_folder.specs.FolderCalls.{contents_after, contents_at_end, Declined, Did, Done, Failed, Faulted, files_after, FolderCall, FolderEvent, is_other, Link, ListNames, Makes, Other, Outcome, outcome_if, Refrained, Sync, WriteHidden}
-use Rattle.rly_folder.specs.FolderModel.{Consistent, Contents, Files, FolderState, Settled, with_file}
+use Rattle.rly_folder.specs.FolderModel.{Consistent, Contents, File, Files, FolderState, Settled, with_file}
 use Rattle.rly_folder.specs.Names.{is_same_name, name_of}
 use Rattle.rly_folder.specs.declared.name.Area.TheVariants.{New}
 use Rattle.rly_folder.specs.declared.name.Name.{Name}
@@ -17,7 +17,7 @@ use Rattle.rly_folder.proofs.Names.{same_name, same_self}
 use Rattle.rly_folder_clients.proofs.Calls.{call_stays, did, Keeps, others_left, refrained, stays_joined, stays_more}
 
 -- a name's file after a change of another name, or of its own
-pub pick : (Q : Name → Option (List ℕ) → Type 0) (other name : Name) (new old : Option (List ℕ)) → Q name new → Q other old
+pub pick : (Q : Name → Option File → Type 0) (other name : Name) (new old : Option File) → Q name new → Q other old
     → Q other (if is_same_name other name then new else old)
 pick Q other name new old fresh rest = by_test (is_same_name other name) (same_name other name)
   where
@@ -25,7 +25,7 @@ pick Q other name new old fresh rest = by_test (is_same_name other name) (same_n
     by_test true is = subst (λ m. Q m new) (sym (is refl)) fresh
     by_test false is = rest
 
-pub own : (name : Name) (new old : Option (List ℕ)) → (if is_same_name name name then new else old) ≡ new
+pub own : (name : Name) (new old : Option File) → (if is_same_name name name then new else old) ≡ new
 own name new old = rw (same_self name) refl
 
 pub same_stays : (P : Files → Type 0) (a : FolderState) → Consistent a → Holds P a → Stays P a a
@@ -52,30 +52,30 @@ module _ {D : Type 0} (state : D → FolderState) where
       taken_hidden more (first + 1) go.0 b go.2 (go.1.leads.honest.1 h) ∙ here)
       (λ stop. absurd (cc stop.0)) runs
 
-  tries_hidden : (bytes : List ℕ) (first more : ℕ) (a b : D) → Runs state (tries bytes first more) true a b → (state a).honest → (state b).seen.hidden ≡ Some bytes
-  tries_hidden bytes first more a b runs h = ⊎_elim
-      (λ go. let w = did state h (WriteHidden bytes) go.1 in
-      let here : (state go.0).seen.hidden ≡ Some bytes = rw w.seen refl in
+  tries_hidden : (file : File) (first more : ℕ) (a b : D) → Runs state (tries file first more) true a b → (state a).honest → (state b).seen.hidden ≡ Some file
+  tries_hidden file first more a b runs h = ⊎_elim
+      (λ go. let w = did state h (WriteHidden file) go.1 in
+      let here : (state go.0).seen.hidden ≡ Some file = rw w.seen refl in
       taken_hidden more first go.0 b go.2 (go.1.leads.honest.1 h) ∙ here)
       (λ stop. absurd (cc stop.0)) runs
 
 -- ---- once
 
-module _ (given : Name → Option (List ℕ) → Bool) where
-  only_gives : (name : Name) (file : Option (List ℕ)) → given name file ≡ true → Keeps (HasOnly given) (with_file name file)
+module _ (given : Name → Option File → Bool) where
+  only_gives : (name : Name) (file : Option File) → given name file ≡ true → Keeps (HasOnly given) (with_file name file)
   only_gives name file is c p other = pick (λ n f. given n f ≡ true) other name file (c other) is (p other)
 
-  module _ (to : Name) (bytes : List ℕ) where
-    abbrev Or : Name → Option (List ℕ) → Type 0
-    Or name file = (given name file ≡ true) ⊎ ((name ≡ to) × (file ≡ Some bytes))
+  module _ (to : Name) (file : File) where
+    abbrev Or : Name → Option File → Type 0
+    Or name held = (given name held ≡ true) ⊎ ((name ≡ to) × (held ≡ Some file))
 
-    or_gives : (name : Name) (file : Option (List ℕ)) → given name file ≡ true → Keeps (HasOnlyOr given to bytes) (with_file name file)
-    or_gives name file is c p other = pick Or other name file (c other) (inl is) (p other)
+    or_gives : (name : Name) (held : Option File) → given name held ≡ true → Keeps (HasOnlyOr given to file) (with_file name held)
+    or_gives name held is c p other = pick Or other name held (c other) (inl is) (p other)
 
-    link_keeps : (hidden : Option (List ℕ)) → hidden ≡ Some bytes → Keeps (HasOnlyOr given to bytes) (with_file to hidden)
+    link_keeps : (hidden : Option File) → hidden ≡ Some file → Keeps (HasOnlyOr given to file) (with_file to hidden)
     link_keeps hidden is c p other = pick Or other to hidden (c other) (inr (refl, is)) (p other)
 
-    or_more : (c : Files) → HasOnly given c → HasOnlyOr given to bytes c
+    or_more : (c : Files) → HasOnly given c → HasOnlyOr given to file c
     or_more c p other = inl (p other)
 
   module _ {D : Type 0} (state : D → FolderState) (consistent : (folder : D) → (state folder).honest → Consistent (state folder)) where
@@ -85,10 +85,10 @@ module _ (given : Name → Option (List ℕ) → Bool) where
     quiet call outcome same makes kept holds =
         call_stays (HasOnly given) given only_gives state consistent call outcome makes kept (λ now h p may able c pc. subst (HasOnly given) (sym (same now c)) pc) holds
 
-    quiet_or : (to : Name) (bytes : List ℕ) (call : FolderCall) (outcome : Outcome) → ((now : Contents) (c : Files) → files_after call now c ≡ c) → {a b : D}
-        (makes : Makes state call outcome a b) → OthersGive given makes.events → Holds (HasOnlyOr given to bytes) (state a) → Stays (HasOnlyOr given to bytes) (state a) (state b)
-    quiet_or to bytes call outcome same makes kept holds =
-        call_stays (HasOnlyOr given to bytes) given (or_gives to bytes) state consistent call outcome makes kept (λ now h p may able c pc. subst (HasOnlyOr given to bytes) (sym (same now c)) pc) holds
+    quiet_or : (to : Name) (file : File) (call : FolderCall) (outcome : Outcome) → ((now : Contents) (c : Files) → files_after call now c ≡ c) → {a b : D}
+        (makes : Makes state call outcome a b) → OthersGive given makes.events → Holds (HasOnlyOr given to file) (state a) → Stays (HasOnlyOr given to file) (state a) (state b)
+    quiet_or to file call outcome same makes kept holds =
+        call_stays (HasOnlyOr given to file) given (or_gives to file) state consistent call outcome makes kept (λ now h p may able c pc. subst (HasOnlyOr given to file) (sym (same now c)) pc) holds
 
     taken_stays : (more first : ℕ) (a b : D) (runs : Runs state (taken first more) true a b) → OthersGiveIn state given (taken first more) true a b runs
         → Holds (HasOnly given) (state a) → Stays (HasOnly given) (state a) (state b)
@@ -98,48 +98,48 @@ module _ (given : Name → Option (List ℕ) → Bool) where
         stays_joined (HasOnly given) _ _ _ one (taken_stays more (first + 1) go.0 b go.2 kept.1 one.holds)
     taken_stays (suc more) first a b (inr stop) kept holds = absurd (cc stop.0)
 
-    pub tries_stays : (bytes : List ℕ) (first more : ℕ) (a b : D) (runs : Runs state (tries bytes first more) true a b) → OthersGiveIn state given (tries bytes first more) true a b runs
+    pub tries_stays : (file : File) (first more : ℕ) (a b : D) (runs : Runs state (tries file first more) true a b) → OthersGiveIn state given (tries file first more) true a b runs
         → Holds (HasOnly given) (state a) → Stays (HasOnly given) (state a) (state b)
-    tries_stays bytes first more a b (inl go) kept holds =
-        let one = quiet (WriteHidden bytes) Did (λ now c. refl) go.1 kept.0 holds in
+    tries_stays file first more a b (inl go) kept holds =
+        let one = quiet (WriteHidden file) Did (λ now c. refl) go.1 kept.0 holds in
         stays_joined (HasOnly given) _ _ _ one (taken_stays more first go.0 b go.2 kept.1 one.holds)
-    tries_stays bytes first more a b (inr stop) kept holds = absurd (cc stop.0)
+    tries_stays file first more a b (inr stop) kept holds = absurd (cc stop.0)
 
-    names_once : (bytes : List ℕ) (first more : ℕ) (outcome : Outcome) {a b : D} (names : Names state bytes first more outcome a b) → OthersInNames given names
-        → Holds (HasOnly given) (state a) → Stays (HasOnlyOr given (name_of New (first + more)) bytes) (state a) (state b)
-    names_once bytes first more outcome {a} {b} names kept holds =
+    names_once : (file : File) (first more : ℕ) (outcome : Outcome) {a b : D} (names : Names state file first more outcome a b) → OthersInNames given names
+        → Holds (HasOnly given) (state a) → Stays (HasOnlyOr given (name_of New (first + more)) file) (state a) (state b)
+    names_once file first more outcome {a} {b} names kept holds =
         let to = name_of New (first + more) in
-        let tried = tries_stays bytes first more a names.tried names.refused kept.0 holds in
-        let hidden = tries_hidden state bytes first more a names.tried names.refused holds.honest in
-        let up = stays_more (HasOnly given) (HasOnlyOr given to bytes) (state a) (state names.tried) (or_more to bytes) tried in
-        stays_joined (HasOnlyOr given to bytes) _ _ _ up
-        (call_stays (HasOnlyOr given to bytes) given (or_gives to bytes) state consistent (Link to) outcome names.links kept.1
-        (λ now same p may able. link_keeps to bytes now.hidden (same ∙ hidden)) up.holds)
+        let tried = tries_stays file first more a names.tried names.refused kept.0 holds in
+        let hidden = tries_hidden state file first more a names.tried names.refused holds.honest in
+        let up = stays_more (HasOnly given) (HasOnlyOr given to file) (state a) (state names.tried) (or_more to file) tried in
+        stays_joined (HasOnlyOr given to file) _ _ _ up
+        (call_stays (HasOnlyOr given to file) given (or_gives to file) state consistent (Link to) outcome names.links kept.1
+        (λ now same p may able. link_keeps to file now.hidden (same ∙ hidden)) up.holds)
 
-    pub put_once : (bytes : List ℕ) (now number : ℕ) (durable : Bool) {a b : D} (puts : Puts state bytes now number durable a b) → OthersInPut given puts
-        → Holds (HasOnly given) (state a) → Stays (HasOnlyOr given (name_of New number) bytes) (state a) (state b)
-    put_once bytes now number durable {a} {b} puts kept holds =
+    pub put_once : (file : File) (now number : ℕ) (durable : Bool) {a b : D} (puts : Puts state file now number durable a b) → OthersInPut given puts
+        → Holds (HasOnly given) (state a) → Stays (HasOnlyOr given (name_of New number) file) (state a) (state b)
+    put_once file now number durable {a} {b} puts kept holds =
         let to = name_of New number in
         let listed = quiet (ListNames New) Did (λ now c. refl) puts.lists.makes kept.0 holds in
-        let named = names_once bytes _ puts.more Did puts.names kept.1 listed.holds in
-        let named_so : Stays (HasOnlyOr given to bytes) (state puts.listed) (state puts.linked) = rw (← puts.number_is) at named in
-        let up = stays_more (HasOnly given) (HasOnlyOr given to bytes) (state a) (state puts.listed) (or_more to bytes) listed in
-        stays_joined (HasOnlyOr given to bytes) _ _ _ up
-        (stays_joined (HasOnlyOr given to bytes) _ _ _ named_so (quiet_or to bytes Sync (outcome_if durable) (λ now c. refl) puts.syncs kept.2 named_so.holds))
+        let named = names_once file _ puts.more Did puts.names kept.1 listed.holds in
+        let named_so : Stays (HasOnlyOr given to file) (state puts.listed) (state puts.linked) = rw (← puts.number_is) at named in
+        let up = stays_more (HasOnly given) (HasOnlyOr given to file) (state a) (state puts.listed) (or_more to file) listed in
+        stays_joined (HasOnlyOr given to file) _ _ _ up
+        (stays_joined (HasOnlyOr given to file) _ _ _ named_so (quiet_or to file Sync (outcome_if durable) (λ now c. refl) puts.syncs kept.2 named_so.holds))
 
-    pub stop_once : (bytes : List ℕ) (now : ℕ) {a b : D} (stops : StopsPut state bytes now a b) → OthersInStop given stops → Holds (HasOnly given) (state a)
-        → (number : ℕ) × Stays (HasOnlyOr given (name_of New number) bytes) (state a) (state b)
-    stop_once bytes now {a} {b} (AtList lists) kept holds =
-        (0, stays_more (HasOnly given) (HasOnlyOr given (name_of New 0) bytes) _ _ (or_more (name_of New 0) bytes) (quiet (ListNames New) Faulted (λ now c. refl) lists kept holds))
-    stop_once bytes now {a} {b} (AtWrite numbers listed lists writes) kept holds =
+    pub stop_once : (file : File) (now : ℕ) {a b : D} (stops : StopsPut state file now a b) → OthersInStop given stops → Holds (HasOnly given) (state a)
+        → (number : ℕ) × Stays (HasOnlyOr given (name_of New number) file) (state a) (state b)
+    stop_once file now {a} {b} (AtList lists) kept holds =
+        (0, stays_more (HasOnly given) (HasOnlyOr given (name_of New 0) file) _ _ (or_more (name_of New 0) file) (quiet (ListNames New) Faulted (λ now c. refl) lists kept holds))
+    stop_once file now {a} {b} (AtWrite numbers listed lists writes) kept holds =
         let one = quiet (ListNames New) Did (λ now c. refl) lists.makes kept.0 holds in
-        let two = quiet (WriteHidden bytes) Faulted (λ now c. refl) writes kept.1 one.holds in
-        (0, stays_more (HasOnly given) (HasOnlyOr given (name_of New 0) bytes) _ _ (or_more (name_of New 0) bytes) (stays_joined (HasOnly given) _ _ _ one two))
-    stop_once bytes now {a} {b} (AtLink numbers more listed lists names) kept holds =
+        let two = quiet (WriteHidden file) Faulted (λ now c. refl) writes kept.1 one.holds in
+        (0, stays_more (HasOnly given) (HasOnlyOr given (name_of New 0) file) _ _ (or_more (name_of New 0) file) (stays_joined (HasOnly given) _ _ _ one two))
+    stop_once file now {a} {b} (AtLink numbers more listed lists names) kept holds =
         let one = quiet (ListNames New) Did (λ now c. refl) lists.makes kept.0 holds in
-        let named = names_once bytes _ more Faulted names kept.1 one.holds in
-        (_, stays_joined _ _ _ _ (stays_more (HasOnly given) _ _ _ (or_more _ bytes) one) named)
-    stop_once bytes now {a} {b} (AtSync number puts) kept holds = (number, put_once bytes now number false puts kept holds)
+        let named = names_once file _ more Faulted names kept.1 one.holds in
+        (_, stays_joined _ _ _ _ (stays_more (HasOnly given) _ _ _ (or_more _ file) one) named)
+    stop_once file now {a} {b} (AtSync number puts) kept holds = (number, put_once file now number false puts kept holds)
 
 -- ---- durable
 
@@ -159,19 +159,19 @@ file_left to (Declined call ∷ events) contents kept are = absurd (cc are)
 file_left to (Failed call done hidden ∷ events) contents kept are = absurd (cc are)
 
 pub put_durable : {D : Type 0} (state : D → FolderState) → ((folder : D) → (state folder).honest → Consistent (state folder))
-    → (bytes : List ℕ) (now number : ℕ) {a b : D} (puts : Puts state bytes now number true a b) → OthersGive (leaves (name_of New number)) puts.syncs.events
-    → (state a).honest → Settled (state b) × ((state b).seen.files (name_of New number) ≡ Some bytes)
-put_durable state consistent bytes now number {a} {b} puts kept h =
+    → (file : File) (now number : ℕ) {a b : D} (puts : Puts state file now number true a b) → OthersGive (leaves (name_of New number)) puts.syncs.events
+    → (state a).honest → Settled (state b) × ((state b).seen.files (name_of New number) ≡ Some file)
+put_durable state consistent file now number {a} {b} puts kept h =
     let to = name_of New number in
     let h1 = puts.lists.makes.leads.honest.1 h in
-    let h2 = runs_honest state (tries bytes (first_number now puts.numbers) puts.more) true puts.listed puts.names.tried puts.names.refused h1 in
+    let h2 = runs_honest state (tries file (first_number now puts.numbers) puts.more) true puts.listed puts.names.tried puts.names.refused h1 in
     let h3 = puts.names.links.leads.honest.1 h2 in
-    let hidden = tries_hidden state bytes (first_number now puts.numbers) puts.more puts.listed puts.names.tried puts.names.refused h1 in
+    let hidden = tries_hidden state file (first_number now puts.numbers) puts.more puts.listed puts.names.tried puts.names.refused h1 in
     let place : ℕ = first_number now puts.numbers + puts.more in
     let link = did state h2 (Link (name_of New place)) puts.names.links in
     let now = contents_at_end link.others (state puts.names.tried).seen in
-    let named : (state puts.linked).seen.files (name_of New place) ≡ Some bytes = rw link.seen (own (name_of New place) now.hidden (now.files (name_of New place)) ∙ link.hidden ∙ hidden) in
-    let named_so : (state puts.linked).seen.files to ≡ Some bytes = rw (← puts.number_is) at named in
+    let named : (state puts.linked).seen.files (name_of New place) ≡ Some file = rw link.seen (own (name_of New place) now.hidden (now.files (name_of New place)) ∙ link.hidden ∙ hidden) in
+    let named_so : (state puts.linked).seen.files to ≡ Some file = rw (← puts.number_is) at named in
     let sync = did state h3 Sync puts.syncs in
     let stays = file_left to sync.others (state puts.linked).seen (others_left (leaves to) sync.others (Done Sync ∷ []) (rw sync.events_are at kept)) sync.are_others in
     (settles state consistent puts.syncs h3, rw sync.seen (stays ∙ named_so))

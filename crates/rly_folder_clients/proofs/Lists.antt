@@ -2,7 +2,7 @@
 use Rattle.std.proofs.Common.{[], arith, Bool, false, true, inl, inr, List, refl, suc, ℕ, ⊎_elim, ◌+◌, ◌∷◌, ◌≡◌}
 use Rattle.std.specs.Prelude.{Err, IfErr, IfOk, IsErrAnd, Ok, Result}
 use Rattle.rly_folder.specs.FolderCalls.{Did, Faulted, FolderCall, Link, Makes, Outcome, outcome_if, Refrained, Sync}
-use Rattle.rly_folder.specs.FolderModel.{FolderState}
+use Rattle.rly_folder.specs.FolderModel.{File, FolderState}
 use Rattle.rly_folder.specs.Names.{name_of}
 use Rattle.rly_folder.specs.declared.name.Area.TheVariants.{New}
 use Rattle.rly_folder_clients.specs.Putting.{AtLink, AtSync, AtWrite, FailsToLink, FailsToName, FailsToPut, Links, Lists, Names, first_number, StopsPut, taken}
@@ -46,19 +46,19 @@ first_links state {a} {b} first outcome makes = let e : first + 0 ≡ first = om
 
 -- ---- a put, from its parts
 
-module _ {D : Type 0} (state : D → FolderState) (bytes : List ℕ) (now first : ℕ) {a listed : D} (numbers : List ℕ) (is : first ≡ first_number now numbers) (lists : Lists state numbers a listed) where
-  after_list : (b : D) (most : ℕ) (why : PutFault) → FailsToName state bytes first why listed b → FailsToPut state bytes most now why a b
+module _ {D : Type 0} (state : D → FolderState) (file : File) (now first : ℕ) {a listed : D} (numbers : List ℕ) (is : first ≡ first_number now numbers) (lists : Lists state numbers a listed) where
+  after_list : (b : D) (most : ℕ) (why : PutFault) → FailsToName state file first why listed b → FailsToPut state file most now why a b
   after_list b most fault.Full fails = absurd fails
   after_list b most fault.Taken fails = (numbers, fails.0, listed, lists, rw is at fails.1)
   after_list b most fault.NoNumber fails = absurd fails
   after_list b most fault.Folder fails = ⊎_elim (λ writes. AtWrite numbers listed lists writes) (λ names. AtLink numbers names.0 listed lists (rw is at names.1)) fails
 
-  pub put_fails : (b : D) (most : ℕ) (result : Result ℕ PutFault) (why : PutFault) → IsErrAnd result (λ e. e ≡ why) → FailsToName state bytes first why listed b
-      → IfErr result (λ e. FailsToPut state bytes most now e a b)
+  pub put_fails : (b : D) (most : ℕ) (result : Result ℕ PutFault) (why : PutFault) → IsErrAnd result (λ e. e ≡ why) → FailsToName state file first why listed b
+      → IfErr result (λ e. FailsToPut state file most now e a b)
   put_fails b most (Ok number) why same fails = tt
   put_fails b most (Err e) why same fails = rw same (after_list b most why fails)
 
-  pub at_sync : {linked b : D} (number : ℕ) → ((more : ℕ) × (number ≡ first + more) × Names state bytes first more Did listed linked)
-      → Makes state Sync Faulted linked b → StopsPut state bytes now a b
+  pub at_sync : {linked b : D} (number : ℕ) → ((more : ℕ) × (number ≡ first + more) × Names state file first more Did listed linked)
+      → Makes state Sync Faulted linked b → StopsPut state file now a b
   at_sync {linked} number named syncs = AtSync number
       (record { numbers = numbers; more = named.0; number_is = rw is at named.1; listed = listed; linked = linked; lists = lists; names = rw is at named.2; syncs = syncs })

@@ -5,7 +5,7 @@ use Rattle.std.proofs.lemmas.Grind.{get_or_default_zero}
 use Rattle.std.specs.List.{Contains}
 use Rattle.std.specs.List.Sorted.{IsStrictlyIncreasing}
 use Rattle.rly_folder.specs.FolderCalls.{Did, Faulted, ListNames, Makes, Outcome, ReadFile, Sync}
-use Rattle.rly_folder.specs.FolderModel.{Consistent, Files, FolderState, IsListing, LeavesOnly}
+use Rattle.rly_folder.specs.FolderModel.{Consistent, File, Files, FolderState, IsListing, LeavesOnly}
 use Rattle.rly_folder.specs.Names.{name_of}
 use Rattle.rly_folder.specs.declared.name.Area.TheVariants.{Out, Printed}
 use Rattle.rly_folder.specs.declared.name.Name.{Name}
@@ -43,14 +43,14 @@ some_or_none : (xs : List ℕ) → (xs ≡ []) ⊎ (0 < length xs)
 some_or_none [] = inl refl
 some_or_none (x ∷ xs) = inr (omega arith)
 
-not_none : (file : Option (List ℕ)) → IsSome file → file ≡ None → ⊥
+not_none : (file : Option File) → IsSome file → file ≡ None → ⊥
 not_none None some none = absurd (cc some)
 not_none (Some bytes) some none = absurd (cc none)
 
 nothing_in : (xs : List ℕ) (n : ℕ) → xs ≡ [] → Contains xs n → ⊥
 nothing_in xs n none has = let lt : has.0 < length xs = has.1 in let no : has.0 < length {A = ℕ} [] = rw none at lt in absurd (omega (arith, no))
 
-pub last_is : (waits : ℕ → Option (List ℕ)) (files : Files) (last : ℕ) (kept : List ℕ) → IsListing Printed files kept → Unread waits last files
+pub last_is : (waits : ℕ → Option File) (files : Files) (last : ℕ) (kept : List ℕ) → IsListing Printed files kept → Unread waits last files
     → get_or kept (length kept - 1) 0 ≡ last
 last_is waits files last kept listing unread = ⊎_elim none some (some_or_none kept)
   where
@@ -73,7 +73,7 @@ last_is waits files last kept listing unread = ⊎_elim none some (some_or_none 
 -- ---- the laws
 
 module _ {D : Type 0} (state : D → FolderState) (consistent : (folder : D) → (state folder).honest → Consistent (state folder))
-    (waits : ℕ → Option (List ℕ)) (given : Name → Option (List ℕ) → Bool) (spares : Spares waits given) where
+    (waits : ℕ → Option File) (given : Name → Option File → Bool) (spares : Spares waits given) where
   module _ (low high last : ℕ) {a b : D} (opens : Opens state last a b) (kept : OthersInOpens given opens) (holds : Holds (UnreadFrom waits low high) (state a)) where
     abbrev Either : Files → Type 0
     Either = UnreadFrom waits low high
@@ -100,7 +100,7 @@ module _ {D : Type 0} (state : D → FolderState) (consistent : (folder : D) →
   old_number : (last number : ℕ) → number ≤ last → (number < last) ⊎ (number ≡ last)
   old_number last number below = ⊎_elim (λ less. inl less) (λ le. inr (omega (arith, le, below))) (cases_lt number last)
 
-  pub file_printed : (last number : ℕ) (printed : Option (List ℕ)) {a b : D} (handles : Handles state last number printed a b) → OthersInHandle given handles
+  pub file_printed : (last number : ℕ) (printed : Option File) {a b : D} (handles : Handles state last number printed a b) → OthersInHandle given handles
       → Holds (Unread waits last) (state a) → Advances waits last (last_after last number printed) (last_after last number printed) (state a) (state b)
   file_printed last number printed (IsNext above payload is prints) kept holds =
       let goes = printing state consistent waits given spares last number above payload true prints kept holds in
@@ -116,7 +116,7 @@ module _ {D : Type 0} (state : D → FolderState) (consistent : (folder : D) →
   failed_read last number fault.TooLong fails kept holds = quiet state consistent waits given spares last (ReadFile (name_of Out number)) Did (λ now c. refl) fails.0 kept holds
   failed_read last number fault.Output fails kept holds = absurd fails
 
-  pub file_stops : (last number : ℕ) (why : GetFault) (printed : Option (List ℕ)) {a b : D} (stops : StopsAt state last number why printed a b) → OthersInStop given stops
+  pub file_stops : (last number : ℕ) (why : GetFault) (printed : Option File) {a b : D} (stops : StopsAt state last number why printed a b) → OthersInStop given stops
       → Holds (Unread waits last) (state a) → Stays (UnreadFrom waits last number) (state a) (state b)
   file_stops last number why printed (AtRead above is fails) kept holds =
       stays_more (Unread waits last) (UnreadFrom waits last number) _ _ (λ c p. inl p) (failed_read last number why fails kept holds)

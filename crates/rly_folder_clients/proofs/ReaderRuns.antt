@@ -6,7 +6,7 @@ use Rattle.std.proofs.lemmas.List.{take-append-drop}
 use Rattle.std.specs.List.{Contains}
 use Rattle.std.specs.List.Sorted.{IsStrictlyIncreasing}
 use Rattle.rly_folder.specs.FolderCalls.{Did, ListNames, ReadFile}
-use Rattle.rly_folder.specs.FolderModel.{Consistent, Files, FolderState, LeavesOnly}
+use Rattle.rly_folder.specs.FolderModel.{Consistent, File, Files, FolderState, LeavesOnly}
 use Rattle.rly_folder.specs.Names.{name_of}
 use Rattle.rly_folder.specs.declared.name.Area.TheVariants.{Out}
 use Rattle.rly_folder.specs.declared.name.Name.{Name}
@@ -42,10 +42,10 @@ head_or_rest : (x : ℕ) (zs : List ℕ) (n k : ℕ) → k < length (x ∷ zs) �
 head_or_rest x zs n zero lt is = inl is
 head_or_rest x zs n (suc k) lt is = inr (k, omega (arith, lt), is)
 
-head_in : (payload : List ℕ) (rest : List (List ℕ)) → Contains (payload ∷ rest) payload
+head_in : (payload : File) (rest : List File) → Contains (payload ∷ rest) payload
 head_in payload rest = (0, omega arith, refl)
 
-later_in : (one : Option (List ℕ)) (rest : List (List ℕ)) (payload : List ℕ) → Contains rest payload → Contains (if_any one ++ rest) payload
+later_in : (one : Option File) (rest : List File) (payload : File) → Contains rest payload → Contains (if_any one ++ rest) payload
 later_in None rest payload has = has
 later_in (Some first) rest payload has = (suc has.0, omega (arith, has.1), has.2)
 
@@ -66,21 +66,21 @@ leaves_more P Q a b more leaves = record {
 }
 
 module _ {D : Type 0} (state : D → FolderState) (consistent : (folder : D) → (state folder).honest → Consistent (state folder))
-    (waits : ℕ → Option (List ℕ)) (given : Name → Option (List ℕ) → Bool) (spares : Spares waits given) where
+    (waits : ℕ → Option File) (given : Name → Option File → Bool) (spares : Spares waits given) where
   -- the files that wait above a number are among these
   abbrev Ahead : ℕ → List ℕ → Type 0
-  Ahead last numbers = (n : ℕ) (payload : List ℕ) → waits n ≡ Some payload → last < n → Contains numbers n
+  Ahead last numbers = (n : ℕ) (payload : File) → waits n ≡ Some payload → last < n → Contains numbers n
 
-  abbrev OpensSo : List (List ℕ) → ℕ → Files → Type 0
+  abbrev OpensSo : List File → ℕ → Files → Type 0
   OpensSo printed first files = (m : ℕ) × Unread waits m files × IsPrintedUpTo waits printed first m
 
   -- of one file
-  record Step (first number : ℕ) (zs : List ℕ) (one : Option (List ℕ)) : Type 0 where
+  record Step (first number : ℕ) (zs : List ℕ) (one : Option File) : Type 0 where
     rising : first ≤ last_after first number one
-    own : (n : ℕ) (payload : List ℕ) → waits n ≡ Some payload → first < n → n ≤ last_after first number one → one ≡ Some payload
+    own : (n : ℕ) (payload : File) → waits n ≡ Some payload → first < n → n ≤ last_after first number one → one ≡ Some payload
     ahead : Ahead (last_after first number one) zs
 
-  is_number : (first number : ℕ) (zs : List ℕ) → IsStrictlyIncreasing (number ∷ zs) → Ahead first (number ∷ zs) → (n : ℕ) (payload : List ℕ) → waits n ≡ Some payload → first < n
+  is_number : (first number : ℕ) (zs : List ℕ) → IsStrictlyIncreasing (number ∷ zs) → Ahead first (number ∷ zs) → (n : ℕ) (payload : File) → waits n ≡ Some payload → first < n
       → n ≤ number → number ≡ n
   is_number first number zs inc ahead n payload waiting above below = let has = ahead n payload waiting above in
       ⊎_elim (λ is. is) (λ later. absurd (omega (arith, below, rises number zs inc n later))) (head_or_rest number zs n has.0 has.1 has.2)
@@ -88,7 +88,7 @@ module _ {D : Type 0} (state : D → FolderState) (consistent : (folder : D) →
   in_rest : (number : ℕ) (zs : List ℕ) (n : ℕ) → (number ≡ n → ⊥) → Contains (number ∷ zs) n → Contains zs n
   in_rest number zs n other has = ⊎_elim (λ is. absurd (other is)) (λ later. later) (head_or_rest number zs n has.0 has.1 has.2)
 
-  one_step : (first number : ℕ) (zs : List ℕ) (one : Option (List ℕ)) {a b : D} → IsStrictlyIncreasing (number ∷ zs) → Ahead first (number ∷ zs)
+  one_step : (first number : ℕ) (zs : List ℕ) (one : Option File) {a b : D} → IsStrictlyIncreasing (number ∷ zs) → Ahead first (number ∷ zs)
       → (handles : Handles state first number one a b) → OthersInHandle given handles → Holds (Unread waits first) (state a) → Step first number zs one
   one_step first number zs one {a} {b} inc ahead (IsNext above payload is prints) kept holds =
       let read = quiet state consistent waits given spares first (ReadFile (name_of Out number)) Did (λ now c. refl) prints.reads.makes kept.0 holds in
@@ -112,12 +112,12 @@ module _ {D : Type 0} (state : D → FolderState) (consistent : (folder : D) →
     ahead = λ n found waiting over. in_rest number zs n (λ same. omega (arith, same, over, below)) (ahead n found waiting over);
   })
 
-  pub record Run (first last : ℕ) (printed : List (List ℕ)) (a b : D) : Type 0 where
+  pub record Run (first last : ℕ) (printed : List File) (a b : D) : Type 0 where
     pub holds : Holds (Unread waits last) (state b)
     pub up_to : IsPrintedUpTo waits printed first last
     pub crashes : LeavesOnly (state a) (state b) (OpensSo printed first)
 
-  none : (first : ℕ) (printed : List (List ℕ)) → IsPrintedUpTo waits printed first first
+  none : (first : ℕ) (printed : List File) → IsPrintedUpTo waits printed first first
   none first printed = record { within = omega arith; each = λ n payload waiting over below. absurd (omega (arith, over, below)) }
 
   still : (first : ℕ) (a : D) → Holds (Unread waits first) (state a) → Run first first [] a a
@@ -127,11 +127,11 @@ module _ {D : Type 0} (state : D → FolderState) (consistent : (folder : D) →
     crashes = leaves_more (Unread waits first) (OpensSo [] first) _ _ (λ c p. (first, p, none first [])) (same_stays (Unread waits first) (state a) (consistent a holds.honest) holds).crashes;
   }
 
-  module _ (first number : ℕ) (zs : List ℕ) (one : Option (List ℕ)) (rest : List (List ℕ)) (step : Step first number zs one) where
+  module _ (first number : ℕ) (zs : List ℕ) (one : Option File) (rest : List File) (step : Step first number zs one) where
     abbrev next : ℕ
     next = last_after first number one
 
-    own_in : (n : ℕ) (payload : List ℕ) → one ≡ Some payload → Contains (if_any one ++ rest) payload
+    own_in : (n : ℕ) (payload : File) → one ≡ Some payload → Contains (if_any one ++ rest) payload
     own_in n payload is = rw is (head_in payload rest)
 
     up_to_next : IsPrintedUpTo waits (if_any one ++ rest) first next
@@ -155,7 +155,7 @@ module _ {D : Type 0} (state : D → FolderState) (consistent : (folder : D) →
           (leaves_more (OpensSo rest next) (OpensSo (if_any one ++ rest) first) _ _ (λ c p. (p.0, p.1, further p.0 p.2)) run.crashes);
     }
 
-  each_printed : (xs rest : List ℕ) (first last : ℕ) (printed : List (List ℕ)) (a b : D) → IsStrictlyIncreasing (xs ++ rest) → Ahead first (xs ++ rest)
+  each_printed : (xs rest : List ℕ) (first last : ℕ) (printed : List File) (a b : D) → IsStrictlyIncreasing (xs ++ rest) → Ahead first (xs ++ rest)
       → (each : HandlesEach state first xs printed last a b) → OthersInEach state given first xs printed last a b each → Holds (Unread waits first) (state a) → Run first last printed a b
   each_printed [] rest first last printed a b inc ahead each kept holds = rw (each.0, each.1, each.2) (still first a holds)
   each_printed (x ∷ xs) rest first last printed a b inc ahead each kept holds =
@@ -164,7 +164,7 @@ module _ {D : Type 0} (state : D → FolderState) (consistent : (folder : D) →
       rw each.3 (more first x (xs ++ rest) each.0 each.1 step last here
       (each_printed xs rest (last_after first x each.0) last each.1 each.2 b (rest_rises x (xs ++ rest) inc) step.ahead each.5 kept.1 here.holds))
 
-  pub files_printed : (low high first last done : ℕ) (numbers : List ℕ) (printed : List (List ℕ)) {a l b : D} (begins : Begins state first numbers a l) → OthersInBegins given begins
+  pub files_printed : (low high first last done : ℕ) (numbers : List ℕ) (printed : List File) {a l b : D} (begins : Begins state first numbers a l) → OthersInBegins given begins
       → (each : HandlesEach state first (take done numbers) printed last l b) → OthersInEach state given first (take done numbers) printed last l b each
       → Holds (UnreadFrom waits low high) (state a)
       → Holds (Unread waits last) (state b) × IsPrintedUpTo waits printed first last × LeavesOnly (state a) (state b) (OpensToPrinted waits printed low high first)
@@ -184,5 +184,5 @@ module _ {D : Type 0} (state : D → FolderState) (consistent : (folder : D) →
             (leaves_more (OpensSo printed first) (OpensToPrinted waits printed low high first) _ _ (λ c p. (p.0, p.1, inr (inr p.2))) run.crashes)),
       )
     where
-      some : {file : Option (List ℕ)} {payload : List ℕ} → file ≡ Some payload → IsSome file
+      some : {file : Option File} {payload : File} → file ≡ Some payload → IsSome file
       some is = rw is refl

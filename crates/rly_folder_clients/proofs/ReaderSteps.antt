@@ -1,7 +1,7 @@
 -- The calls of a reader for one file, one after another: what a crash leaves.
 use Rattle.std.proofs.Common.{[], arith, Bool, false, true, inl, inr, List, None, refl, Some, subst, sym, ⊎_elim, ℕ, Option, ◌++◌, ◌∷◌, ◌<◌, ◌≡◌, ◌⊎◌, ◌∙◌}
 use Rattle.rly_folder.specs.FolderCalls.{contents_after, contents_at_end, Declined, Did, Done, Faulted, files_after, FolderCall, is_declined, Link, Makes, Outcome, ReadFile, Refrained, Remove, Rename, Sync, WriteHidden}
-use Rattle.rly_folder.specs.FolderModel.{Consistent, Contents, Files, FolderState, with_file}
+use Rattle.rly_folder.specs.FolderModel.{Consistent, Contents, File, file_with, Files, FolderState, with_file}
 use Rattle.rly_folder.specs.Names.{name_of}
 use Rattle.rly_folder.specs.declared.name.Area.TheVariants.{Out, Printed}
 use Rattle.rly_folder.specs.declared.name.Name.{Name}
@@ -14,15 +14,15 @@ use Rattle.rly_folder_clients.proofs.FolderLemmas.{settles}
 use Rattle.rly_folder_clients.proofs.UnreadFiles.{link_makes, link_was_made, removal_keeps, rename_makes, unread_left}
 
 module _ {D : Type 0} (state : D → FolderState) (consistent : (folder : D) → (state folder).honest → Consistent (state folder))
-    (waits : ℕ → Option (List ℕ)) (given : Name → Option (List ℕ) → Bool) (spares : Spares waits given) where
-  pub gives : (last : ℕ) (name : Name) (file : Option (List ℕ)) → given name file ≡ true → Keeps (Unread waits last) (with_file name file)
+    (waits : ℕ → Option File) (given : Name → Option File → Bool) (spares : Spares waits given) where
+  pub gives : (last : ℕ) (name : Name) (file : Option File) → given name file ≡ true → Keeps (Unread waits last) (with_file name file)
   gives last name file is = unread_left waits given spares name file is last
 
-  pub gives_from : (low high : ℕ) (name : Name) (file : Option (List ℕ)) → given name file ≡ true → Keeps (UnreadFrom waits low high) (with_file name file)
+  pub gives_from : (low high : ℕ) (name : Name) (file : Option File) → given name file ≡ true → Keeps (UnreadFrom waits low high) (with_file name file)
   gives_from low high name file is c = ⊎_elim (λ p. inl (gives low name file is c p)) (λ p. inr (gives high name file is c p))
 
   -- what is seen after a call
-  module _ (P Q : Files → Type 0) (keeps : (name : Name) (file : Option (List ℕ)) → given name file ≡ true → Keeps P (with_file name file)) (call : FolderCall) {a b : D}
+  module _ (P Q : Files → Type 0) (keeps : (name : Name) (file : Option File) → given name file ≡ true → Keeps P (with_file name file)) (call : FolderCall) {a b : D}
       (honest : (state a).honest) (here : P (state a).seen.files) where
     pub seen_did : (makes : Makes state call Did a b) → OthersGive given makes.events
         → ((now : Contents) → now.hidden ≡ (state a).seen.hidden → P now.files → is_declined call now ≡ false → Q (files_after call now now.files)) → Q (state b).seen.files
@@ -98,14 +98,14 @@ module _ {D : Type 0} (state : D → FolderState) (consistent : (folder : D) →
     linked is there = (Link (name_of Printed number), if_done is) ∷ synced there
 
     seen_linked : (is : Bool) {a b : D} (makes : Makes state (Link (name_of Printed number)) (if_done is) a b) → OthersGive given makes.events → Holds From (state a)
-        → (state a).seen.hidden ≡ Some [] → Own (state b).seen.files
+        → (state a).seen.hidden ≡ Some (file_with [] 0) → Own (state b).seen.files
     seen_linked true makes kept holds hidden = seen_did From Own (gives_from last number) (Link (name_of Printed number)) holds.honest holds.seen makes kept
         (λ now h p able. link_makes waits last number above now now.files able p)
     seen_linked false makes kept holds hidden = seen_refrained From Own (gives_from last number) (Link (name_of Printed number)) holds.honest holds.seen makes kept
         (λ now h p declined. link_was_made waits last number above now declined (h ∙ hidden) p)
 
     linking : (is there whole : Bool) {a b : D} (runs : Runs state (linked is there) whole a b) → OthersGiveIn state given (linked is there) whole a b runs → Holds From (state a)
-        → (state a).seen.hidden ≡ Some [] → Goes whole a b
+        → (state a).seen.hidden ≡ Some (file_with [] 0) → Goes whole a b
     linking is there whole (inl go) kept holds hidden =
         let one = step (Link (name_of Printed number)) (if_done is) go.1 kept.0 (λ now able may c pc. inr (link_makes waits last number above now c able pc)) holds in
         then one (syncing there whole go.2 kept.1 one.holds (seen_linked is go.1 kept.0 holds hidden))
@@ -113,14 +113,14 @@ module _ {D : Type 0} (state : D → FolderState) (consistent : (folder : D) →
         stopped stop.0 (step (Link (name_of Printed number)) Faulted stop.1 kept (λ now able may c pc. inr (link_makes waits last number above now c able pc)) holds)
 
     abbrev written : Bool → Bool → List Step
-    written is there = (WriteHidden [], Did) ∷ linked is there
+    written is there = (WriteHidden (file_with [] 0), Did) ∷ linked is there
 
     writing : (is there whole : Bool) {a b : D} (runs : Runs state (written is there) whole a b) → OthersGiveIn state given (written is there) whole a b runs → Holds From (state a) → Goes whole a b
     writing is there whole (inl go) kept holds =
-        let one = step (WriteHidden []) Did go.1 kept.0 (λ now able may c pc. pc) holds in
-        let hidden : (state go.0).seen.hidden ≡ Some [] = rw (did state holds.honest (WriteHidden []) go.1).seen refl in
+        let one = step (WriteHidden (file_with [] 0)) Did go.1 kept.0 (λ now able may c pc. pc) holds in
+        let hidden : (state go.0).seen.hidden ≡ Some (file_with [] 0) = rw (did state holds.honest (WriteHidden (file_with [] 0)) go.1).seen refl in
         then one (linking is there whole go.2 kept.1 one.holds hidden)
-    writing is there whole (inr stop) kept holds = stopped stop.0 (step (WriteHidden []) Faulted stop.1 kept (λ now able may c pc. pc) holds)
+    writing is there whole (inr stop) kept holds = stopped stop.0 (step (WriteHidden (file_with [] 0)) Faulted stop.1 kept (λ now able may c pc. pc) holds)
 
     abbrev renaming : FolderCall
     renaming = Rename (name_of Printed last) (name_of Printed number)
@@ -147,7 +147,7 @@ module _ {D : Type 0} (state : D → FolderState) (consistent : (folder : D) →
         (λ moved. subst (λ s. Finishing s there whole a b) (sym moved) (λ runs kept. moves there whole runs kept holds))
         (λ made. subst (λ s. Finishing s there whole a b) (sym made.1) (λ runs kept. makes_one made.0 there whole runs kept holds)) is
 
-    pub printing : (payload : List ℕ) (whole : Bool) {a b : D} (prints : Prints state last number payload whole a b) → OthersInPrint given prints → Holds (Unread waits last) (state a) → Goes whole a b
+    pub printing : (payload : File) (whole : Bool) {a b : D} (prints : Prints state last number payload whole a b) → OthersInPrint given prints → Holds (Unread waits last) (state a) → Goes whole a b
     printing payload whole {a} {b} prints kept holds =
         let read = quiet last (ReadFile (name_of Out number)) Did (λ now c. refl) prints.reads.makes kept.0 holds in
         let f = prints.finishes in

@@ -2,7 +2,7 @@
 use Rattle.std.proofs.Common.{[], ap, arith, Bool, false, true, if◌then◌else◌, inl, inr, IsSome, List, None, refl, Some, subst, sym, ⊎_elim, ℕ, Option, ◌∷◌, ◌<◌, ◌≤◌, ◌≡◌, ◌⊎◌, ◌∙◌}
 use Rattle.std.proofs.lemmas.Bool.Decides.{nat_tests}
 use Rattle.std.specs.Prelude.{◌&&◌, ◌==◌, ◌||◌, is_none, is_some}
-use Rattle.rly_folder.specs.FolderModel.{Contents, Files, with_file}
+use Rattle.rly_folder.specs.FolderModel.{Contents, File, file_with, Files, with_file}
 use Rattle.rly_folder.specs.FolderCalls.{files_after, is_declined, Link, Remove, Rename}
 use Rattle.rly_folder.specs.Names.{is_same_name, name_of}
 use Rattle.rly_folder.specs.declared.name.Area.TheVariants.{Out, Printed}
@@ -12,7 +12,7 @@ use Rattle.rly_folder_clients.specs.Reading.{Spares, Unread, UnreadFrom}
 use Rattle.rly_folder_clients.proofs.Calls.{Keeps}
 
 -- a name's file after a change of another name, or of its own
-at_name : (other name : Name) (new old : Option (List ℕ)) (Q : Option (List ℕ) → Type 0) → (other ≡ name → Q new) → Q old
+at_name : (other name : Name) (new old : Option File) (Q : Option File → Type 0) → (other ≡ name → Q new) → Q old
     → Q (if is_same_name other name then new else old)
 at_name other name new old Q fresh rest = by_test (is_same_name other name) (same_name other name)
   where
@@ -39,14 +39,14 @@ out_differs n m less = apart _ _ (λ (is : name_of Out n ≡ name_of Out m). abs
     number : name_of Out n ≡ name_of Out m → n ≡ m
     number is = ap (λ name. name.number) is
 
-module _ (waits : ℕ → Option (List ℕ)) where
+module _ (waits : ℕ → Option File) where
   -- a change by another program
-  module _ (given : Name → Option (List ℕ) → Bool) (spares : Spares waits given) (name : Name) (file : Option (List ℕ)) (is_given : given name file ≡ true) where
+  module _ (given : Name → Option File → Bool) (spares : Spares waits given) (name : Name) (file : Option File) (is_given : given name file ≡ true) where
     hidden_left : (c : Files) (n : ℕ) → with_file name file c (name_of Printed n) ≡ c (name_of Printed n)
     hidden_left c n = at_name (name_of Printed n) name file (c (name_of Printed n)) (λ f. f ≡ c (name_of Printed n))
         (λ is. absurd (cc (is_given, is, spares.hidden n file))) refl
 
-    waiting_left : (c : Files) (n : ℕ) (payload : List ℕ) → waits n ≡ Some payload → c (name_of Out n) ≡ Some payload → with_file name file c (name_of Out n) ≡ Some payload
+    waiting_left : (c : Files) (n : ℕ) (payload : File) → waits n ≡ Some payload → c (name_of Out n) ≡ Some payload → with_file name file c (name_of Out n) ≡ Some payload
     waiting_left c n payload waiting here = at_name (name_of Out n) name file (c (name_of Out n)) (λ f. f ≡ Some payload)
         (λ is. spares.waiting n payload file waiting (rw (← is) at is_given)) here
 
@@ -73,10 +73,10 @@ module _ (waits : ℕ → Option (List ℕ)) where
     hidden_above : (c : Files) → From c → (n : ℕ) → number < n → c (name_of Printed n) ≡ None
     hidden_above c from n over = ⊎_elim (λ p. p.bound n (omega (arith, above, over))) (λ p. p.bound n over) from
 
-    waiting_above : (c : Files) → From c → (n : ℕ) (payload : List ℕ) → waits n ≡ Some payload → number < n → c (name_of Out n) ≡ Some payload
+    waiting_above : (c : Files) → From c → (n : ℕ) (payload : File) → waits n ≡ Some payload → number < n → c (name_of Out n) ≡ Some payload
     waiting_above c from n payload waiting over = ⊎_elim (λ p. p.there n payload waiting (omega (arith, above, over))) (λ p. p.there n payload waiting over) from
 
-    there_so : (file : Option (List ℕ)) → is_none file ≡ false → IsSome file
+    there_so : (file : Option File) → is_none file ≡ false → IsSome file
     there_so None is = absurd (cc is)
     there_so (Some bytes) is = refl
 
@@ -101,10 +101,10 @@ module _ (waits : ℕ → Option (List ℕ)) where
     }
 
     -- or has it already
-    pub link_was_made : (now : Contents) → is_declined (Link (name_of Printed number)) now ≡ true → now.hidden ≡ Some [] → From now.files → Unread waits number now.files
+    pub link_was_made : (now : Contents) → is_declined (Link (name_of Printed number)) now ≡ true → now.hidden ≡ Some (file_with [] 0) → From now.files → Unread waits number now.files
     link_was_made now declined hidden from = ⊎_elim (λ p. absurd (taken now.hidden (now.files (name_of Printed number)) hidden (p.bound number above) declined)) (λ p. p) from
       where
-        taken : (written file : Option (List ℕ)) → written ≡ Some [] → file ≡ None → (is_none written || is_some file) ≡ true → ⊥
+        taken : (written file : Option File) → written ≡ Some (file_with [] 0) → file ≡ None → (is_none written || is_some file) ≡ true → ⊥
         taken None file some none is = absurd (cc some)
         taken (Some bytes) None some none is = absurd (cc is)
         taken (Some bytes) (Some other) some none is = absurd (cc none)

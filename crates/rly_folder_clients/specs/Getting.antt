@@ -4,7 +4,7 @@ use Rattle.std.specs.Prelude.{Option, None, Some, Result, is_some, nat_lt}
 use Rattle.std.specs.Io.KnownBytes.{Appends}
 use Rattle.rly_daemon_reply.specs.Beginnings.{AppendsBeginning}
 use Rattle.rly_folder.specs.FolderCalls.{Did, Faulted, Link, ListNames, Makes, Outcome, ReadFile, Refrained, Remove, Rename, Sync, WriteHidden, outcome_of}
-use Rattle.rly_folder.specs.FolderModel.{FolderState, IsListing}
+use Rattle.rly_folder.specs.FolderModel.{File, FolderState, IsListing, file_with}
 use Rattle.rly_folder.specs.Names.{name_of}
 use Rattle.rly_folder.specs.declared.name.Area.TheVariants.{Out, Printed}
 use Rattle.rly_folder_clients.specs.Forms.{bytes_of_each, if_any}
@@ -23,7 +23,7 @@ moving from to = (Rename (name_of Printed from) (name_of Printed to), Did) ∷ (
 
 -- one is made; or it was there
 abbrev pub making_one : ℕ → Bool → List Step
-making_one to linked = (WriteHidden [], Did) ∷ (Link (name_of Printed to), if_done linked) ∷ (Sync, Did) ∷ []
+making_one to linked = (WriteHidden (file_with [] 0), Did) ∷ (Link (name_of Printed to), if_done linked) ∷ (Sync, Did) ∷ []
 
 -- there is none to move: one is made
 abbrev pub making : ℕ → ℕ → Bool → List Step
@@ -46,15 +46,15 @@ pub record Finishes {D : Type 0} (state : D → FolderState) (last number : ℕ)
   pub runs : Runs state (steps ++ (Remove (name_of Out number), if_done there) ∷ []) whole old new
 
 -- the whole file was read, or it wasn't there
-pub record Reads {D : Type 0} (state : D → FolderState) (number : ℕ) (found : Option (List ℕ)) (old new : D)
+pub record Reads {D : Type 0} (state : D → FolderState) (number : ℕ) (found : Option File) (old new : D)
     : Type 0 where
   pub makes : Makes state (ReadFile (name_of Out number)) Did old new
   pub file : (state old).honest → found ≡ (state new).seen.files (name_of Out number)
 
 -- a file with more bytes than any payload has
-abbrev pub is_too_long : Option (List ℕ) → Bool
+abbrev pub is_too_long : Option File → Bool
 is_too_long None = false
-is_too_long (Some bytes) = nat_lt 65536 (length bytes)
+is_too_long (Some file) = nat_lt 65536 (length file.bytes)
 
 -- it wasn't read, or isn't a station's
 abbrev pub FailsToRead : {D : Type 0} → (D → FolderState) → ℕ → GetFault → D → D → Type 0
@@ -68,44 +68,44 @@ abbrev pub Removes : {D E : Type 0} → (D → FolderState) → ℕ → Result B
 Removes state number result old new = Makes state (Remove (name_of Out number)) (outcome_of result) old new
 
 -- a file was read, and printed between these calls and the next ones; then its number was kept and the file removed
-pub record Prints {D : Type 0} (state : D → FolderState) (last number : ℕ) (payload : List ℕ) (whole : Bool) (old new : D)
+pub record Prints {D : Type 0} (state : D → FolderState) (last number : ℕ) (payload : File) (whole : Bool) (old new : D)
     : Type 0 where
   pub read : D
   pub reads : Reads state number (Some payload) old read
   pub finishes : Finishes state last number whole read new
 
 -- a file was handled: printed if its number is above the last one; and if a crash left it, or it is gone by now, not
-pub data Handles {D : Type 0} (state : D → FolderState) (last number : ℕ) (printed : Option (List ℕ)) (old new : D)
+pub data Handles {D : Type 0} (state : D → FolderState) (last number : ℕ) (printed : Option File) (old new : D)
     : Type 0 where
-  IsNext : last < number → (payload : List ℕ) → printed ≡ Some payload → Prints state last number payload true old new
+  IsNext : last < number → (payload : File) → printed ≡ Some payload → Prints state last number payload true old new
       → Handles state last number printed old new
   IsGone : last < number → printed ≡ None → Reads state number None old new → Handles state last number printed old new
   IsOld : number ≤ last → printed ≡ None → (there : Bool)
       → Makes state (Remove (name_of Out number)) (if_done there) old new → Handles state last number printed old new
 
 -- it wasn't handled to its end
-pub data StopsAt {D : Type 0} (state : D → FolderState) (last number : ℕ) (why : GetFault) (printed : Option (List ℕ))
+pub data StopsAt {D : Type 0} (state : D → FolderState) (last number : ℕ) (why : GetFault) (printed : Option File)
     (old new : D) : Type 0 where
   AtRead : last < number → printed ≡ None → FailsToRead state number why old new
       → StopsAt state last number why printed old new
   -- some of it was printed, or all
-  AtOutput : last < number → why ≡ fault.Output → (payload : List ℕ) → printed ≡ Some payload
+  AtOutput : last < number → why ≡ fault.Output → (payload : File) → printed ≡ Some payload
       → Reads state number (Some payload) old new → StopsAt state last number why printed old new
   -- it was printed, and will be again unless its number was kept
-  AtFinish : last < number → why ≡ fault.Folder → (payload : List ℕ) → printed ≡ Some payload
+  AtFinish : last < number → why ≡ fault.Folder → (payload : File) → printed ≡ Some payload
       → Prints state last number payload false old new → StopsAt state last number why printed old new
   AtOld : number ≤ last → why ≡ fault.Folder → printed ≡ None
       → Makes state (Remove (name_of Out number)) Faulted old new → StopsAt state last number why printed old new
 
 -- the last number after a file
-abbrev pub last_after : ℕ → ℕ → Option (List ℕ) → ℕ
+abbrev pub last_after : ℕ → ℕ → Option File → ℕ
 last_after last number printed = if is_some printed then number else last
 
 -- files were handled in this order
-abbrev pub HandlesEach : {D : Type 0} → (D → FolderState) → ℕ → List ℕ → List (List ℕ) → ℕ → D → D → Type 0
+abbrev pub HandlesEach : {D : Type 0} → (D → FolderState) → ℕ → List ℕ → List File → ℕ → D → D → Type 0
 HandlesEach state first [] printed last old new = (printed ≡ []) × (last ≡ first) × (new ≡ old)
 HandlesEach {D} state first (number ∷ numbers) printed last old new =
-    (one : Option (List ℕ)) × (rest : List (List ℕ)) × (next : D) × (printed ≡ if_any one ++ rest)
+    (one : Option File) × (rest : List File) × (next : D) × (printed ≡ if_any one ++ rest)
     × Handles state first number one old next
     × HandlesEach state (last_after first number one) numbers rest last next new
 
@@ -118,21 +118,21 @@ Wrote fault.Output old new bytes = AppendsBeginning old new bytes
 -- a file was handled, and its bytes written if it was printed
 abbrev pub HandlesOne : {D : Type 0} → (D → FolderState) → Form → ℕ → ℕ → Bool → Option (List ℕ) → Option (List ℕ)
     → D → D → Type 0
-HandlesOne state form last number is_printed written writes old new = (printed : Option (List ℕ))
+HandlesOne state form last number is_printed written writes old new = (printed : Option File)
     × (is_printed ≡ is_some printed) × Handles state last number printed old new
     × Appends written writes (bytes_of_each form (if_any printed))
 
 -- it wasn't, to its end
 abbrev pub StopsOne : {D : Type 0} → (D → FolderState) → Form → ℕ → ℕ → GetFault → Option (List ℕ) → Option (List ℕ)
     → D → D → Type 0
-StopsOne state form last number why written writes old new = (printed : Option (List ℕ))
+StopsOne state form last number why written writes old new = (printed : Option File)
     × StopsAt state last number why printed old new × Wrote why written writes (bytes_of_each form (if_any printed))
 
 -- the first files of a list were handled: all of them, or up to the one with which enough were printed
 pub record HandlesSome {D : Type 0} (state : D → FolderState) (form : Form) (first : ℕ) (numbers : List ℕ) (most count : ℕ)
     (written writes : Option (List ℕ)) (old new : D) : Type 0 where
   pub done : ℕ
-  pub printed : List (List ℕ)
+  pub printed : List File
   pub last : ℕ
   pub each : HandlesEach state first (take done numbers) printed last old new
   pub enough : (length numbers ≤ done) ⊎ (count ≡ most)
@@ -144,12 +144,12 @@ pub record HandlesSome {D : Type 0} (state : D → FolderState) (form : Form) (f
 pub record StopsAmong {D : Type 0} (state : D → FolderState) (form : Form) (first : ℕ) (numbers : List ℕ) (why : GetFault)
     (written writes : Option (List ℕ)) (old new : D) : Type 0 where
   pub done : ℕ
-  pub printed : List (List ℕ)
+  pub printed : List File
   pub last : ℕ
   pub stopped : D
   pub each : HandlesEach state first (take done numbers) printed last old stopped
   pub among : done < length numbers
-  pub one : Option (List ℕ)
+  pub one : Option File
   pub stops : StopsAt state last (get_or numbers done 0) why one stopped new
   -- what was written before this one
   pub between : Option (List ℕ)

@@ -1,6 +1,6 @@
 -- Properties of a folder's files that hold of what a program sees and of each crash image.
 use Rattle.std.specs.Prelude.{◌≡◌, ◌⊎◌, Bool, true, ℕ, List, Option, Some}
-use Rattle.rly_folder.specs.FolderModel.{Files, FolderState, LeavesOnly}
+use Rattle.rly_folder.specs.FolderModel.{File, Files, FolderState, LeavesOnly}
 use Rattle.rly_folder.specs.declared.name.Name.{Name}
 
 -- a folder that keeps to the model: the property holds of the files that are seen, and of those that a crash now leaves
@@ -15,9 +15,9 @@ pub record Stays (P : Files → Type 0) (old new : FolderState) : Type 0 where
   pub holds : Holds P new
 
 -- each name has one of these files, or none if that is one of these
-abbrev pub HasOnly : (Name → Option (List ℕ) → Bool) → Files → Type 0
+abbrev pub HasOnly : (Name → Option File → Bool) → Files → Type 0
 HasOnly given files = (name : Name) → given name (files name) ≡ true
 
 -- and one name may have this file instead
-abbrev pub HasOnlyOr : (Name → Option (List ℕ) → Bool) → Name → List ℕ → Files → Type 0
-HasOnlyOr given to bytes files = (name : Name) → (given name (files name) ≡ true) ⊎ ((name ≡ to) × (files name ≡ Some bytes))
+abbrev pub HasOnlyOr : (Name → Option File → Bool) → Name → File → Files → Type 0
+HasOnlyOr given to file files = (name : Name) → (given name (files name) ≡ true) ⊎ ((name ≡ to) × (files name ≡ Some file))

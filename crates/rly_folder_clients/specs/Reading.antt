@@ -1,6 +1,6 @@
 -- The files of a folder while a reader prints those handed out, and the changes that other programs make meanwhile.
 use Rattle.std.specs.Prelude.{◌≡◌, ◌⊎◌, ◌<◌, ◌≤◌, ℕ, Bool, true, false, List, [], ◌∷◌, ◌++◌, Option, None, Some, Contains, IsSome, ⊤}
-use Rattle.rly_folder.specs.FolderModel.{Files, FolderState, LeavesOnly}
+use Rattle.rly_folder.specs.FolderModel.{File, Files, FolderState, LeavesOnly}
 use Rattle.rly_folder.specs.Names.{name_of}
 use Rattle.rly_folder.specs.declared.name.Area.TheVariants.{Out, Printed}
 use Rattle.rly_folder.specs.declared.name.Name.{Name}
@@ -13,66 +13,66 @@ use Rattle.rly_folder_clients.specs.declared.getting.GetFault.{GetFault}
 use Rattle.rly_folder_clients.specs.declared.getting.GetFault.TheVariants as fault
 
 -- a reader opens to this number, and each file that waits above it is there
-pub record Unread (waits : ℕ → Option (List ℕ)) (last : ℕ) (files : Files) : Type 0 where
+pub record Unread (waits : ℕ → Option File) (last : ℕ) (files : Files) : Type 0 where
   -- its hidden name has the number of the last file that was printed, if any was
   pub kept : (last ≡ 0) ⊎ IsSome (files (name_of Printed last))
   -- and no greater one
   pub bound : (n : ℕ) → last < n → files (name_of Printed n) ≡ None
-  pub there : (n : ℕ) (payload : List ℕ) → waits n ≡ Some payload → last < n
+  pub there : (n : ℕ) (payload : File) → waits n ≡ Some payload → last < n
       → files (name_of Out n) ≡ Some payload
 
 -- it opens to one number or to the other
-abbrev pub UnreadFrom : (ℕ → Option (List ℕ)) → ℕ → ℕ → Files → Type 0
+abbrev pub UnreadFrom : (ℕ → Option File) → ℕ → ℕ → Files → Type 0
 UnreadFrom waits last next files = Unread waits last files ⊎ Unread waits next files
 
 -- a crash at any moment leaves files that open to one of these numbers, and at the end they open to this one
-pub record Advances (waits : ℕ → Option (List ℕ)) (low high last : ℕ) (old new : FolderState) : Type 0 where
+pub record Advances (waits : ℕ → Option File) (low high last : ℕ) (old new : FolderState) : Type 0 where
   pub crashes : LeavesOnly old new (UnreadFrom waits low high)
   pub holds : Holds (Unread waits last) new
 
 -- each file that waits above one number, up to another, is among those that were printed
-pub record IsPrintedUpTo (waits : ℕ → Option (List ℕ)) (printed : List (List ℕ)) (first last : ℕ) : Type 0 where
+pub record IsPrintedUpTo (waits : ℕ → Option File) (printed : List File) (first last : ℕ) : Type 0 where
   pub within : first ≤ last
-  pub each : (n : ℕ) (payload : List ℕ) → waits n ≡ Some payload → first < n → n ≤ last → Contains printed payload
+  pub each : (n : ℕ) (payload : File) → waits n ≡ Some payload → first < n → n ≤ last → Contains printed payload
 
 -- files open to a number up to which that is so, or to one of two others
-abbrev pub OpensToPrinted : (ℕ → Option (List ℕ)) → List (List ℕ) → ℕ → ℕ → ℕ → Files → Type 0
+abbrev pub OpensToPrinted : (ℕ → Option File) → List File → ℕ → ℕ → ℕ → Files → Type 0
 OpensToPrinted waits printed low high first files =
     (m : ℕ) × Unread waits m files × ((m ≡ low) ⊎ (m ≡ high) ⊎ IsPrintedUpTo waits printed first m)
 
 -- other programs leave the reader's hidden names, and the files that wait
-pub record Spares (waits : ℕ → Option (List ℕ)) (given : Name → Option (List ℕ) → Bool) : Type 0 where
-  pub hidden : (n : ℕ) (file : Option (List ℕ)) → given (name_of Printed n) file ≡ false
-  pub waiting : (n : ℕ) (payload : List ℕ) (file : Option (List ℕ)) → waits n ≡ Some payload
+pub record Spares (waits : ℕ → Option File) (given : Name → Option File → Bool) : Type 0 where
+  pub hidden : (n : ℕ) (file : Option File) → given (name_of Printed n) file ≡ false
+  pub waiting : (n : ℕ) (payload : File) (file : Option File) → waits n ≡ Some payload
       → given (name_of Out n) file ≡ true → file ≡ Some payload
 
 -- names got only such files from other programs while a file was printed
 abbrev pub OthersInFinish : {D : Type 0} {state : D → FolderState} {last number : ℕ} {whole : Bool} {old new : D}
-    → (Name → Option (List ℕ) → Bool) → Finishes state last number whole old new → Type 0
+    → (Name → Option File → Bool) → Finishes state last number whole old new → Type 0
 OthersInFinish {state = state} {number = number} {whole} {old} {new} given finishes = OthersGiveIn state given
     (finishes.steps ++ (Remove (name_of Out number), if_done finishes.there) ∷ []) whole old new finishes.runs
 
-abbrev pub OthersInPrint : {D : Type 0} {state : D → FolderState} {last number : ℕ} {payload : List ℕ} {whole : Bool} {old new : D}
-    → (Name → Option (List ℕ) → Bool) → Prints state last number payload whole old new → Type 0
+abbrev pub OthersInPrint : {D : Type 0} {state : D → FolderState} {last number : ℕ} {payload : File} {whole : Bool} {old new : D}
+    → (Name → Option File → Bool) → Prints state last number payload whole old new → Type 0
 OthersInPrint given prints = OthersGive given prints.reads.makes.events × OthersInFinish given prints.finishes
 
 -- while it was handled
-abbrev pub OthersInHandle : {D : Type 0} {state : D → FolderState} {last number : ℕ} {printed : Option (List ℕ)} {old new : D}
-    → (Name → Option (List ℕ) → Bool) → Handles state last number printed old new → Type 0
+abbrev pub OthersInHandle : {D : Type 0} {state : D → FolderState} {last number : ℕ} {printed : Option File} {old new : D}
+    → (Name → Option File → Bool) → Handles state last number printed old new → Type 0
 OthersInHandle given (IsNext above payload is prints) = OthersInPrint given prints
 OthersInHandle given (IsGone above is reads) = OthersGive given reads.makes.events
 OthersInHandle given (IsOld below is there removes) = OthersGive given removes.events
 
 -- while a read failed
-abbrev pub OthersInFailedRead : {D : Type 0} (state : D → FolderState) (given : Name → Option (List ℕ) → Bool)
+abbrev pub OthersInFailedRead : {D : Type 0} (state : D → FolderState) (given : Name → Option File → Bool)
     (number : ℕ) (why : GetFault) (old new : D) → FailsToRead state number why old new → Type 0
 OthersInFailedRead state given number fault.Folder old new fails = OthersGive given fails.events
 OthersInFailedRead state given number fault.TooLong old new fails = OthersGive given fails.0.events
 OthersInFailedRead state given number fault.Output old new fails = ⊤
 
 -- while it wasn't handled to its end
-abbrev pub OthersInStop : {D : Type 0} {state : D → FolderState} {last number : ℕ} {why : GetFault} {printed : Option (List ℕ)} {old new : D}
-    → (Name → Option (List ℕ) → Bool) → StopsAt state last number why printed old new → Type 0
+abbrev pub OthersInStop : {D : Type 0} {state : D → FolderState} {last number : ℕ} {why : GetFault} {printed : Option File} {old new : D}
+    → (Name → Option File → Bool) → StopsAt state last number why printed old new → Type 0
 OthersInStop {state = state} {number = number} {why} {old = old} {new} given (AtRead above is fails) =
     OthersInFailedRead state given number why old new fails
 OthersInStop given (AtOutput above because payload is reads) = OthersGive given reads.makes.events
@@ -80,8 +80,8 @@ OthersInStop given (AtFinish above because payload is prints) = OthersInPrint gi
 OthersInStop given (AtOld below because is removes) = OthersGive given removes.events
 
 -- while files were handled
-abbrev pub OthersInEach : {D : Type 0} (state : D → FolderState) (given : Name → Option (List ℕ) → Bool)
-    (first : ℕ) (numbers : List ℕ) (printed : List (List ℕ)) (last : ℕ) (old new : D)
+abbrev pub OthersInEach : {D : Type 0} (state : D → FolderState) (given : Name → Option File → Bool)
+    (first : ℕ) (numbers : List ℕ) (printed : List File) (last : ℕ) (old new : D)
     → HandlesEach state first numbers printed last old new → Type 0
 OthersInEach state given first [] printed last old new each = ⊤
 OthersInEach state given first (number ∷ numbers) printed last old new each = OthersInHandle given each.4
@@ -89,9 +89,9 @@ OthersInEach state given first (number ∷ numbers) printed last old new each = 
 
 -- while a reader opened
 abbrev pub OthersInOpens : {D : Type 0} {state : D → FolderState} {last : ℕ} {old new : D}
-    → (Name → Option (List ℕ) → Bool) → Opens state last old new → Type 0
+    → (Name → Option File → Bool) → Opens state last old new → Type 0
 OthersInOpens given opens = OthersGive given opens.syncs.events × OthersGive given opens.lists.events
 
 abbrev pub OthersInBegins : {D : Type 0} {state : D → FolderState} {last : ℕ} {numbers : List ℕ} {old new : D}
-    → (Name → Option (List ℕ) → Bool) → Begins state last numbers old new → Type 0
+    → (Name → Option File → Bool) → Begins state last numbers old new → Type 0
 OthersInBegins given begins = OthersInOpens given begins.opens × OthersGive given begins.lists.events

@@ -2,6 +2,7 @@
 ghost use Rattle.std.specs.Prelude.{◌≡◌, ◌-◌, Bool, IfErr, IfOk, OnErr, false, get_or, if◌then◌else◌, is_ok, length};
 ghost use Rattle.std.specs.Prelude.{option_map, true};
 ghost use Rattle.rly_folder.specs.FolderCalls.{Faulted, Makes, Remove};
+ghost use Rattle.rly_folder.specs.FolderModel.{as_file};
 ghost use Rattle.rly_folder.specs.Names.{name_of};
 ghost use Rattle.rly_folder.specs.declared.name.Area.TheVariants.{Out as OutArea};
 ghost use Rattle.rly_folder_clients.specs.Getting.{FailsToOpen, FailsToRead, Finishes, Gets, HandlesOne, HandlesSome};
@@ -10,7 +11,7 @@ ghost use Rattle.rly_folder_clients.specs.Getting.{is_too_long, making_one};
 ghost use Rattle.rly_folder_clients.specs.Runs.{Runs};
 
 use crate::form::{Form, print};
-use rly_folder::{Area, Folder, FolderFault, Name};
+use rly_folder::{Area, Folder, FolderFault, FolderFile, Name};
 use std::io::Write;
 
 /// Why not all files were printed.
@@ -127,10 +128,10 @@ fn print_next<F: Folder, W: Write>(
     if number <= last {
         return remove_old(folder, number);
     }
-    let Some(payload) = read(folder, number)? else {
+    let Some(file) = read(folder, number)? else {
         return Ok(false);
     };
-    match print(out, form, &payload) {
+    match print(out, form, &file.bytes) {
         Ok(()) => keep_and_remove(folder, last, number),
         Err(_) => Err(GetFault::Output),
     }
@@ -163,8 +164,8 @@ fn keep_and_remove<F: Folder>(folder: &mut F, last: u64, number: u64) -> Result<
 }
 
 /// Reads a file as a whole.
-fn read<F: Folder>(folder: &mut F, number: u64) -> Result<Option<Vec<u8>>, GetFault>
-    ensures ok { IfOk result (λ found. Reads F.state number (option_map (λ bytes. bytes.items) found)
+fn read<F: Folder>(folder: &mut F, number: u64) -> Result<Option<FolderFile>, GetFault>
+    ensures ok { IfOk result (λ found. Reads F.state number (option_map as_file found)
         folder.old folder.new) }
     ensures err { IfErr result (λ why. FailsToRead F.state number why folder.old folder.new) }
 {
@@ -176,11 +177,11 @@ fn read<F: Folder>(folder: &mut F, number: u64) -> Result<Option<Vec<u8>>, GetFa
     }
 }
 
-fn is_too_long(found: &Option<Vec<u8>>) -> bool
-    ensures { result ≡ is_too_long (option_map (λ bytes. bytes.items) found.now) }
+fn is_too_long(found: &Option<FolderFile>) -> bool
+    ensures { result ≡ is_too_long (option_map as_file found.now) }
 {
     match found {
-        Some(bytes) => bytes.len() > LONGEST,
+        Some(file) => file.bytes.len() > LONGEST,
         None => false,
     }
 }
@@ -219,7 +220,7 @@ fn make<F: Folder>(folder: &mut F, number: u64) -> Result<(), FolderFault>
     ensures { (linked : Bool) × Runs F.state (making_one number linked) (is_ok result) folder.old folder.new }
 {
     let area = Area::Printed;
-    folder.write(&[])?;
+    folder.write(&[], 0)?;
     folder.link(Name { area, number })?;
     folder.sync()
 }

@@ -1,6 +1,7 @@
 // Puts a file into a folder.
-ghost use Rattle.std.specs.Prelude.{◌≡◌, ◌≤◌, ◌+◌, ◌^◌, ℕ, IfErr, IfOk, IfSome, None, true};
+ghost use Rattle.std.specs.Prelude.{◌≡◌, ◌≤◌, ◌<◌, ◌+◌, ◌^◌, ℕ, IfErr, IfOk, IfSome, None, true};
 ghost use Rattle.rly_folder.specs.FolderCalls.{Did};
+ghost use Rattle.rly_folder.specs.FolderModel.{file_with};
 ghost use Rattle.rly_folder_clients.specs.Putting.{FailsToLink, FailsToName, FailsToPut, HadRoom, Links, Names, Puts};
 ghost use Rattle.rly_folder_clients.specs.Putting.{number_after};
 
@@ -22,14 +23,24 @@ pub enum PutFault {
 /// The number of names that a put tries, one after another, since other writers took the first ones.
 const TRIES: u32 = 1_000;
 
-/// Puts a file into a folder, durably, and returns its number among the new files. It has the first free number that is
+/// Puts a file into a folder, durably, with an age limit in microseconds if that isn't 0, and returns its number among
+/// the new files. It has the first free number that is
 /// above the greatest one and not below `now`, the clock in microseconds since 1970: so the name of a file that has left
 /// `new/` doesn't return, while clocks go forward. Refuses if `most` new files wait.
-pub fn put<F: Folder>(folder: &mut F, bytes: &[u8], most: u64, now: u64) -> Result<u64, PutFault>
-    ensures puts { IfOk result (λ number. Puts F.state bytes.now now number true folder.old folder.new) }
+pub fn put<F: Folder>(
+    folder: &mut F,
+    bytes: &[u8],
+    limit: u64,
+    most: u64,
+    now: u64,
+) -> Result<u64, PutFault>
+    requires { limit < 2 ^ 40 }
+    ensures puts { IfOk result (λ number. Puts F.state (file_with bytes.now limit) now number true
+        folder.old folder.new) }
     ensures room { IfOk result (λ _. HadRoom F.state most folder.old) }
     ensures clock { IfOk result (λ number. now ≤ number) }
-    ensures fails { IfErr result (λ fault. FailsToPut F.state bytes.now most now fault folder.old folder.new) }
+    ensures fails { IfErr result (λ fault. FailsToPut F.state (file_with bytes.now limit) most now fault
+        folder.old folder.new) }
 {
     let Ok(numbers) = folder.list(Area::New) else {
         return Err(PutFault::Folder);
@@ -40,7 +51,7 @@ pub fn put<F: Folder>(folder: &mut F, bytes: &[u8], most: u64, now: u64) -> Resu
     let Some(next) = next_number(&numbers) else {
         return Err(PutFault::NoNumber);
     };
-    let number = name_file(folder, bytes, next.max(now))?;
+    let number = name_file(folder, bytes, limit, next.max(now))?;
     match folder.sync() {
         Ok(()) => Ok(number),
         Err(_) => Err(PutFault::Folder),
@@ -59,12 +70,18 @@ fn next_number(numbers: &[u64]) -> Option<u64>
 }
 
 /// Writes a file and gives it the first free number from one on.
-fn name_file<F: Folder>(folder: &mut F, bytes: &[u8], first: u64) -> Result<u64, PutFault>
+fn name_file<F: Folder>(
+    folder: &mut F,
+    bytes: &[u8],
+    limit: u64,
+    first: u64,
+) -> Result<u64, PutFault>
+    requires { limit < 2 ^ 40 }
     ensures ok { IfOk result (λ number. (more : ℕ) × (number ≡ first + more)
-        × Names F.state bytes.now first more Did folder.old folder.new) }
-    ensures err { IfErr result (λ fault. FailsToName F.state bytes.now first fault folder.old folder.new) }
+        × Names F.state (file_with bytes.now limit) first more Did folder.old folder.new) }
+    ensures err { IfErr result (λ fault. FailsToName F.state (file_with bytes.now limit) first fault folder.old folder.new) }
 {
-    match folder.write(bytes) {
+    match folder.write(bytes, limit) {
         Ok(()) => link_free(folder, first, TRIES),
         Err(_) => Err(PutFault::Folder),
     }

@@ -6,6 +6,7 @@ use denote.Struct.Field.{rows}
 use denote.Struct.Struct.{Struct}
 use Rattle.std.proofs.Crossing.{crosses}
 use Rattle.rly_folder_file.specs.contracts.file_folder.FileFolder as FileFolder
+use Rattle.rly_folder_file.specs.contracts.limits.Limits as Limits
 use Rattle.rly_folder_file.specs.contracts.root.Root as Root
 
 root_send : (H : RattleType) → IsSend H → IsSend (Root.the_field H).row
@@ -15,6 +16,9 @@ root_send H h =
     (h, (search sendable depth 20, (search (sendable, crosses) depth 40, (search (sendable, crosses) depth 40, (search sendable depth 20, (search sendable depth 20, tt)))))) in
     struct_send (shape root) fields
 
+limits_send : IsSend (Limits.the_field).row
+limits_send = search (sendable, crosses) depth 60
+
 pub file_folder_send : (H : RattleType) → IsSend H → IsSend (FileFolder.the_row H)
 file_folder_send H h =
     let folder : Declared = FileFolder.the_type H in
@@ -23,10 +27,16 @@ file_folder_send H h =
       (
         search (sendable, crosses) depth 40,
         (
-          search (sendable, crosses) depth 40,
+          search sendable depth 20,
           (
             search (sendable, crosses) depth 40,
-            (search (sendable, crosses) depth 40, (search (sendable, crosses) depth 60, (search (sendable, crosses) depth 60, (search (sendable, crosses) depth 40, tt)))),
+            (
+              limits_send,
+              (
+                search (sendable, crosses) depth 40,
+                (search (sendable, crosses) depth 40, (search (sendable, crosses) depth 60, (search (sendable, crosses) depth 60, (search (sendable, crosses) depth 40, tt)))),
+              ),
+            ),
           ),
         ),
       ),

@@ -1,5 +1,5 @@
 -- The names of a folder's files.
-use Rattle.std.specs.Prelude.{◌≡◌, ◌<◌, ◌==◌, ◌&&◌, ◌++◌, ◌-◌, ◌^◌, ℕ, Bool, List, [], Option, None, Some, codes, if◌then◌else◌, length, nat_lt, replicate}
+use Rattle.std.specs.Prelude.{◌≡◌, ◌<◌, ◌⊎◌, ◌==◌, ◌&&◌, ◌++◌, ◌-◌, ◌^◌, ℕ, Bool, List, [], Option, None, Some, codes, if◌then◌else◌, length, nat_lt, replicate}
 use Rattle.std.specs.Char.{is_ascii_digit}
 use Rattle.std.specs.Fmt.{decimal}
 use Rattle.std.specs.List.{list_all}
@@ -40,7 +40,7 @@ prefix_of Out = []
 prefix_of Kept = codes ".greatest-"
 prefix_of Printed = codes ".printed-"
 
--- and the text behind them
+-- and the text at the end
 abbrev pub suffix_of : Area → List ℕ
 suffix_of New = []
 suffix_of Sent = []
@@ -55,9 +55,13 @@ suffix_of Printed = []
 abbrev pub twenty_digits : ℕ → List ℕ
 twenty_digits number = replicate (20 - length (decimal number)) 48 ++ decimal number
 
--- the name of the file of an area with this number
-abbrev pub file_name : Area → ℕ → List ℕ
-file_name area number = prefix_of area ++ (twenty_digits number ++ suffix_of area)
+-- the text of a limit in microseconds in a name: none for a file without one
+abbrev pub limit_text : ℕ → List ℕ
+limit_text limit = if limit == 0 then [] else codes ".limit-" ++ twenty_digits limit
+
+-- the name of the file of an area with this number and this limit
+abbrev pub file_name : Area → ℕ → ℕ → List ℕ
+file_name area number limit = prefix_of area ++ (twenty_digits number ++ (limit_text limit ++ suffix_of area))
 
 abbrev pub are_twenty_digits : List ℕ → Bool
 are_twenty_digits digits = (length digits == 20) && list_all is_ascii_digit digits
@@ -67,18 +71,33 @@ abbrev pub value_in : List ℕ → Option ℕ
 value_in digits =
     if are_twenty_digits digits && nat_lt (digits_value 10 digits) (2 ^ 64) then Some (digits_value 10 digits) else None
 
--- a name that is read as that of the file of an area with this number
-pub record IsFileName (area : Area) (number : ℕ) (name : List ℕ) : Type 0 where
+-- a text that is read as a limit in microseconds
+pub record NamesLimit (limit : ℕ) (text : List ℕ) : Type 0 where
   pub digits : List ℕ
-  pub name_is : name ≡ prefix_of area ++ (digits ++ suffix_of area)
+  pub text_is : text ≡ codes ".limit-" ++ digits
+  pub value_is : value_in digits ≡ Some limit
+  pub counts : 0 < limit
+  pub fits : limit < 2 ^ 40
+
+-- the same, or no text for no limit
+abbrev pub IsLimit : ℕ → List ℕ → Type 0
+IsLimit limit text = ((limit ≡ 0) × (text ≡ [])) ⊎ NamesLimit limit text
+
+-- a name that is read as that of the file of an area with this number and this limit
+pub record IsFileName (area : Area) (number limit : ℕ) (name : List ℕ) : Type 0 where
+  pub digits : List ℕ
+  pub text : List ℕ
+  pub name_is : name ≡ prefix_of area ++ ((digits ++ text) ++ suffix_of area)
   pub value_is : value_in digits ≡ Some number
   pub counts : 0 < number
+  pub limit_is : IsLimit limit text
 
 -- the text of a place: of a file or a sub-folder, its path from the folder on
 abbrev pub place_text : Place → List ℕ
 place_text Folder = codes "."
 place_text (PlaceVariants.Sub sub) = sub_folder_name sub
-place_text (File name) = sub_folder_name (sub_folder_of name.area) ++ (codes "/" ++ file_name name.area name.number)
+place_text (File file) = sub_folder_name (sub_folder_of file.name.area)
+    ++ (codes "/" ++ file_name file.name.area file.name.number file.limit)
 place_text Hidden = codes "hidden file"
 place_text Trial = codes "trial of a hard link"
 place_text TrialLink = codes "hard link on trial"

@@ -1,8 +1,8 @@
 // A folder of the file system.
 ghost use Rattle.std.specs.Prelude.{◌≡◌, ◌<◌, ◌+◌, ◌-◌, ◌^◌, if◌then◌else◌, IfOk, None, OnErr, OnOk, is_ok};
-ghost use Rattle.std.specs.Prelude.{option_map, take, true};
+ghost use Rattle.std.specs.Prelude.{IfSome, option_map, true};
 ghost use Rattle.std.specs.Option.{option_copied};
-ghost use Rattle.rly_folder.specs.FolderModel.{IsListing, IsSpent};
+ghost use Rattle.rly_folder.specs.FolderModel.{IsListing, IsSpent, as_file, file_with, front_of};
 ghost use Rattle.rly_folder.specs.FolderCalls.{Link, ListNames, Makes, ReadFile, Remove, Rename, Sync, WriteHidden};
 ghost use Rattle.rly_folder.specs.FolderCalls.{outcome_if, outcome_of};
 ghost use Rattle.rly_folder_file.specs.FileNames.{sub_folder_of};
@@ -11,12 +11,13 @@ ghost use Rattle.rly_folder_file.specs.SubFolders.{HasNone, with_sub};
 use crate::fault::{OpenFault, PlaceFault};
 use crate::foreign::Foreign;
 use crate::left_behind::remove_left_behind;
-use crate::listing::{list, refusal_of};
+use crate::limits::Limits;
+use crate::listing::{list, look_for, refusal_of};
 use crate::opening::prepare;
-use crate::place::{FileName, Place, SubFolder};
+use crate::place::{FileName, Numbered, Place, SubFolder};
 use crate::root::{Kind, Root};
 use crate::sub_folders::SubFolders;
-use rly_folder::{Area, Counts, Folder, FolderFault, Name};
+use rly_folder::{Area, Counts, Folder, FolderFault, FolderFile, Name};
 use std::alloc::Global;
 use std::fs::{File, Files, TryLockError};
 
@@ -29,10 +30,14 @@ pub struct FileFolder<H> {
     root: Root<H>,
     /// The hidden file, open, if it was written whole and has no name yet.
     written: Option<File>,
+    /// Its limit.
+    limit: u64,
     /// The file that got a name last, until the next one is written.
     linked: Option<File>,
+    limits: Limits,
     touched: SubFolders,
     counts: Counts,
+    ghost limit_fits: { limit < 2 ^ 40 },
     fault: Option<PlaceFault>,
     foreign: Foreign,
     lock: Option<File>,
@@ -56,6 +61,8 @@ impl<H: Files<File = File> + Alloc<A = Global> + Clone + Drop> FileFolder<H> {
         Ok(FileFolder {
             root,
             written: None,
+            limit: 0,
+            limits: Limits::new(alloc),
             linked: None,
             touched: SubFolders::all(),
             counts: Counts::new(),
@@ -174,29 +181,111 @@ impl<H: Files<File = File> + Alloc<A = Global> + Clone + Drop> FileFolder<H> {
     }
 
     /// Reads the first bytes of a file, if it is there. Another kind of file, whose reading may never end, is foreign.
-    fn read_file(&mut self, name: Name, most: usize) -> Result<Option<Vec<u8>>, PlaceFault>
+    fn read_file(&mut self, name: Name, most: usize) -> Result<Option<FolderFile>, PlaceFault>
         ensures counts { self.new.counts ≡ self.old.counts }
         ensures pending { self.new.touched ≡ self.old.touched }
     {
-        let place = Place::File(name);
+        let limit = self.find(name)?;
+        let file = FileName { name, limit };
+        let place = Place::File(file);
         match self.root.kind_of(place)? {
             Kind::Missing => Ok(None),
-            Kind::File => self.root.read(place, most),
+            Kind::File => match self.root.read(place, most)? {
+                Some(bytes) => Ok(Some(FolderFile::new(bytes, limit))),
+                None => Ok(None),
+            },
             Kind::Other => {
-                let text = format!(in self.root.alloc; "{}", FileName(name)).ok();
+                let text = format!(in self.root.alloc; "{file}").ok();
                 self.foreign.add(SubFolder::of(name.area), text);
                 Ok(None)
             }
         }
     }
 
+    /// Finds the limit in the name of a number's file; 0 if it has none, or isn't there. If several files have the number,
+    /// the one without a limit is the folder's, and each other one comes once that is gone.
+    fn find(&mut self, name: Name) -> Result<u64, PlaceFault>
+        ensures counts { self.new.counts ≡ self.old.counts }
+        ensures pending { self.new.touched ≡ self.old.touched }
+        ensures fits { IfOk result (λ limit. limit < 2 ^ 40) }
+    {
+        if self.is_there(name, 0)? {
+            return Ok(0);
+        }
+        if let Some(limit) = self.limits.get(name)
+            && self.is_there(name, limit)?
+        {
+            return Ok(limit);
+        }
+        look_for(&self.root, name, &mut self.limits)?;
+        Ok(self.limits.get(name).unwrap_or(0))
+    }
+
+    /// Returns true iff a file of this name and this limit is there.
+    fn is_there(&self, name: Name, limit: u64) -> Result<bool, PlaceFault> {
+        let place = Place::File(FileName { name, limit });
+        Ok(!matches!(self.root.kind_of(place)?, Kind::Missing))
+    }
+
+    /// Returns true iff a file of this name is known to be there with another limit.
+    fn is_taken(&self, name: Name, limit: u64) -> Result<bool, PlaceFault> {
+        if limit != 0 && self.is_there(name, 0)? {
+            return Ok(true);
+        }
+        match self.limits.get(name) {
+            Some(other) if other != limit => self.is_there(name, other),
+            _ => Ok(false),
+        }
+    }
+
+    /// Adds the limit that a file has by its new name. Where memory for it is refused, it is looked for again.
+    fn add_limit(&mut self, name: Name, limit: u64)
+        requires { limit < 2 ^ 40 }
+        ensures counts { self.new.counts ≡ self.old.counts }
+        ensures pending { self.new.touched ≡ self.old.touched }
+    {
+        let number = name.number;
+        let _ = self.limits.add(name.area, Numbered { number, limit });
+    }
+
+    /// Gives a file another name, with the limit that it has.
+    fn rename_file(&mut self, from: Name, to: Name) -> Result<bool, PlaceFault>
+        ensures counts { self.new.counts ≡ self.old.counts }
+        ensures pending { self.new.touched ≡ self.old.touched }
+    {
+        let limit = self.find(from)?;
+        let old = Place::File(FileName { name: from, limit });
+        let new = Place::File(FileName { name: to, limit });
+        let is_renamed = self.root.rename(old, new)?;
+        if is_renamed && limit != 0 {
+            self.limits.forget(from);
+            self.add_limit(to, limit);
+        }
+        Ok(is_renamed)
+    }
+
+    /// Removes a file.
+    fn remove_file(&mut self, name: Name) -> Result<bool, PlaceFault>
+        ensures counts { self.new.counts ≡ self.old.counts }
+        ensures pending { self.new.touched ≡ self.old.touched }
+    {
+        let limit = self.find(name)?;
+        let is_removed = self.root.remove(Place::File(FileName { name, limit }))?;
+        if limit != 0 {
+            self.limits.forget(name);
+        }
+        Ok(is_removed)
+    }
+
     /// Writes the hidden file anew.
-    fn write_hidden(&mut self, bytes: &[u8]) -> Result<(), PlaceFault>
+    fn write_hidden(&mut self, bytes: &[u8], limit: u64) -> Result<(), PlaceFault>
+        requires { limit < 2 ^ 40 }
         ensures counts { self.new.counts ≡ self.old.counts }
         ensures pending { self.new.touched ≡ self.old.touched }
     {
         self.written = None;
         self.linked = None;
+        self.limit = limit;
         self.written = Some(self.root.write(bytes)?);
         Ok(())
     }
@@ -209,9 +298,12 @@ impl<H: Files<File = File> + Alloc<A = Global> + Clone + Drop> FileFolder<H> {
         if self.written.is_none() {
             return Ok(false);
         }
-        if !self.root.link(Place::Hidden, Place::File(to))? {
+        let limit = self.limit;
+        let place = Place::File(FileName { name: to, limit });
+        if self.is_taken(to, limit)? || !self.root.link(Place::Hidden, place)? {
             return Ok(false);
         }
+        self.add_limit(to, limit);
         let file = self.written.take();
         self.root.remove(Place::Hidden)?;
         self.linked = file;
@@ -255,14 +347,14 @@ impl<H: Files<File = File> + Alloc<A = Global> + Clone + Drop> Folder for FileFo
             return Err(FolderFault);
         }
         self.touched.add(SubFolder::of(area));
-        let outcome = list(&self.root, area, &mut self.foreign);
+        let outcome = list(&self.root, area, &mut self.limits, &mut self.foreign);
         self.finish(false, outcome)
     }
 
-    fn read(&mut self, name: Name, most: usize) -> Result<Option<Vec<u8>>, FolderFault>
+    fn read(&mut self, name: Name, most: usize) -> Result<Option<FolderFile>, FolderFault>
         ensures file { (file_state self.old).honest
-            → IfOk result (λ found. option_map (λ bytes. bytes.items) found
-            ≡ option_map (take most) ((file_state self.new).seen.files name)) }
+            → IfOk result (λ found. option_map as_file found
+            ≡ option_map (front_of most) ((file_state self.new).seen.files name)) }
         ensures trace { Makes file_state (ReadFile name) (outcome_if (is_ok result)) self.old self.new }
         ensures pending { ¬ IsSpent (file_state self.old)
             → pending_of self.new ≡ with_sub (pending_of self.old) (sub_folder_of name.area) }
@@ -275,14 +367,16 @@ impl<H: Files<File = File> + Alloc<A = Global> + Clone + Drop> Folder for FileFo
         self.finish(false, outcome)
     }
 
-    fn write(&mut self, bytes: &[u8]) -> Result<(), FolderFault>
-        ensures trace { Makes file_state (WriteHidden bytes.now) (outcome_if (is_ok result)) self.old self.new }
+    fn write(&mut self, bytes: &[u8], limit: u64) -> Result<(), FolderFault>
+        requires { limit < 2 ^ 40 }
+        ensures trace { Makes file_state (WriteHidden (file_with bytes.now limit)) (outcome_if (is_ok result))
+            self.old self.new }
         ensures pending { pending_of self.new ≡ pending_of self.old }
     {
         if self.counts.is_spent() {
             return Err(FolderFault);
         }
-        let outcome = self.write_hidden(bytes);
+        let outcome = self.write_hidden(bytes, limit);
         self.finish(false, outcome)
     }
 
@@ -310,7 +404,7 @@ impl<H: Files<File = File> + Alloc<A = Global> + Clone + Drop> Folder for FileFo
         }
         self.touched.add(SubFolder::of(from.area));
         self.touched.add(SubFolder::of(to.area));
-        let outcome = self.root.rename(Place::File(from), Place::File(to));
+        let outcome = self.rename_file(from, to);
         self.finish(false, outcome)
     }
 
@@ -323,7 +417,7 @@ impl<H: Files<File = File> + Alloc<A = Global> + Clone + Drop> Folder for FileFo
             return Err(FolderFault);
         }
         self.touched.add(SubFolder::of(name.area));
-        let outcome = self.root.remove(Place::File(name));
+        let outcome = self.remove_file(name);
         self.finish(false, outcome)
     }
 

@@ -3,7 +3,7 @@
 //!
 //! Nothing can be proved of what a file system does, so a `FileFolder` is never honest: its
 //! contracts cover its counters. `Place` has the names: `new/`, `sent/`, `refused/` and `out/`, and
-//! 20 digits for each file. Callers: the programs that put files in and hand them on.
+//! for each file 20 digits, and its age limit if it has one. Callers: the programs that put files in and hand them on.
 #![tactic(auto)]
 
 mod fault;
@@ -11,6 +11,7 @@ mod file_folder;
 mod foreign;
 mod laws;
 mod left_behind;
+mod limits;
 mod listing;
 mod opening;
 mod permission;
@@ -22,4 +23,4 @@ pub use fault::{OpenFault, OpenMessage, PlaceFault};
 pub use file_folder::FileFolder;
 pub use foreign::Foreign;
 pub use laws::{law_name_has_one_number, law_name_is_read};
-pub use place::{FileName, Place, SubFolder, number_in};
+pub use place::{FileName, Numbered, Place, SubFolder, numbered_in};

@@ -5,16 +5,17 @@ ghost use Rattle.rly_folder_file.specs.Listing.{IsInOrder};
 
 use crate::fault::{PlaceFault, at};
 use crate::foreign::Foreign;
-use crate::place::{Place, SubFolder, number_in};
+use crate::limits::Limits;
+use crate::place::{Place, SubFolder, numbered_in};
 use crate::root::Root;
-use rly_folder::Area;
+use rly_folder::{Area, Name};
 use std::alloc::{AllocError, Global};
 use std::fs::{File, Files, Metadata};
 use std::io::ErrorKind;
 use std::os::unix::fs::MetadataExt;
 use std::{fs, io};
 
-/// Lists an area, the least number first.
+/// Lists an area, the least number first, and its limits.
 ///
 /// Reading a folder takes a while, in which other programs add files: one that was added earlier may be missing and a
 /// later one there. So it is read twice, and the second time counts, up to the greatest number of the first: a writer
@@ -22,9 +23,10 @@ use std::{fs, io};
 pub(crate) fn list<H: Files<File = File> + Alloc<A = Global> + Clone + Drop>(
     root: &Root<H>,
     area: Area,
+    limits: &mut Limits,
     foreign: &mut Foreign,
 ) -> Result<Vec<u64>, PlaceFault> {
-    let first = list_once(root, area, foreign)?;
+    let first = list_once(root, area, limits, foreign)?;
     if !has_other_writers(area) {
         return Ok(first);
     }
@@ -32,7 +34,7 @@ pub(crate) fn list<H: Files<File = File> + Alloc<A = Global> + Clone + Drop>(
         return Ok(first);
     };
     let mut ignored = Foreign::new();
-    let second = list_once(root, area, &mut ignored)?;
+    let second = list_once(root, area, limits, &mut ignored)?;
     Ok(up_to(second, *greatest))
 }
 
@@ -53,11 +55,16 @@ fn up_to(numbers: Vec<u64>, greatest: u64) -> Vec<u64>
 fn list_once<H: Files<File = File> + Alloc<A = Global> + Clone + Drop>(
     root: &Root<H>,
     area: Area,
+    limits: &mut Limits,
     foreign: &mut Foreign,
 ) -> Result<Vec<u64>, PlaceFault> {
     let place = Place::Sub(SubFolder::of(area));
     let path = at(place, root.path_of(place))?;
-    let numbers = at(place, read_names(root, path.as_str(), area, foreign))?;
+    limits.forget_area(area);
+    let numbers = at(
+        place,
+        read_names(root, path.as_str(), area, limits, foreign),
+    )?;
     at(place, in_order(numbers))
 }
 
@@ -75,13 +82,17 @@ fn read_names<H: Files<File = File> + Alloc<A = Global> + Clone + Drop>(
     root: &Root<H>,
     path: &str,
     area: Area,
+    limits: &mut Limits,
     foreign: &mut Foreign,
 ) -> io::Result<Vec<u64>> {
     let mut numbers = Vec::new(root.alloc);
     for entry in fs::read_dir(&root.host, path)? {
         match entry {
-            Ok(entry) => match number_in(area, entry.file_name()) {
-                Some(number) => numbers.push(number)?,
+            Ok(entry) => match numbered_in(area, entry.file_name()) {
+                Some(file) => {
+                    numbers.push(file.number)?;
+                    limits.add(area, file)?;
+                }
                 None => pass(root.alloc, area, entry.file_name(), foreign)?,
             },
             Err(word) if word.kind() == ErrorKind::InvalidFilename => {
@@ -106,11 +117,42 @@ fn pass(alloc: Global, area: Area, name: &str, foreign: &mut Foreign) -> Result<
 /// The area of which a sub-folder's file has this name.
 fn area_in(sub: SubFolder, name: &str) -> Option<Area> {
     for area in sub.areas() {
-        if number_in(*area, name).is_some() {
+        if numbered_in(*area, name).is_some() {
             return Some(*area);
         }
     }
     None
+}
+
+/// Looks through an area for a file of this number, and adds the limits of those that it finds.
+pub(crate) fn look_for<H: Files<File = File> + Alloc<A = Global> + Clone + Drop>(
+    root: &Root<H>,
+    name: Name,
+    limits: &mut Limits,
+) -> Result<(), PlaceFault> {
+    let place = Place::Sub(SubFolder::of(name.area));
+    let path = at(place, root.path_of(place))?;
+    limits.forget(name);
+    at(place, find_limits(root, path.as_str(), name, limits))
+}
+
+fn find_limits<H: Files<File = File> + Alloc<A = Global> + Clone + Drop>(
+    root: &Root<H>,
+    path: &str,
+    name: Name,
+    limits: &mut Limits,
+) -> io::Result<()> {
+    for entry in fs::read_dir(&root.host, path)? {
+        match entry {
+            Ok(entry) => match numbered_in(name.area, entry.file_name()) {
+                Some(file) if file.number == name.number => limits.add(name.area, file)?,
+                _ => {}
+            },
+            Err(word) if word.kind() == ErrorKind::InvalidFilename => {}
+            Err(word) => return Err(word),
+        }
+    }
+    Ok(())
 }
 
 /// Returns the area of the refused file with this inode number, if one is there.

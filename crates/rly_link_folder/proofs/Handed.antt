@@ -49,7 +49,7 @@ module _ (P : Files → Type 0) where
       → (c : Files) → images_after_call call contents I c → P c
   after_call (ListNames area) contents I keeps both c image = both.1 c image
   after_call (ReadFile name) contents I keeps both c image = both.1 c image
-  after_call (WriteHidden bytes) contents I keeps both c image = both.1 c image
+  after_call (WriteHidden file) contents I keeps both c image = both.1 c image
   after_call (Link to) contents I keeps both c image = may _ I keeps both.1 c image
   after_call (Rename from to) contents I keeps both c image = may _ I keeps both.1 c image
   after_call (Remove name) contents I keeps both c image = may _ I keeps both.1 c image

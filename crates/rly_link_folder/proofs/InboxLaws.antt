@@ -3,7 +3,7 @@ use Rattle.std.proofs.Common.{[], ap, arith, Bool, false, true, inl, inr, List, 
 use Rattle.std.specs.Prelude.{nat_lt}
 use Rattle.std.proofs.lemmas.Bool.Decides.{nat_tests}
 use Rattle.rly_folder.specs.FolderCalls.{FolderEvent, is_declined, Leads, Remove}
-use Rattle.rly_folder.specs.FolderModel.{Consistent, Contents, Files, FolderState, IsSpent, LeavesOnly, with_file}
+use Rattle.rly_folder.specs.FolderModel.{Consistent, Contents, File, Files, FolderState, IsSpent, LeavesOnly, with_file}
 use Rattle.rly_folder.specs.Names.{name_of}
 use Rattle.rly_folder.specs.declared.name.Area.TheVariants.{New, Sent}
 use Rattle.rly_folder.specs.declared.name.Name.{Name}
@@ -68,10 +68,10 @@ numbers ledger puts custody last i place whole state {a} {b} consistent calls wr
     putting_too j n is put = put_keeps custody next (stay_apart custody ledger i (name_of New place) to keeps.fits.distinct at free) j (name_of New n)
         (other_place custody ledger i (name_of New place) to keeps.fits.distinct at free j (λ same. absurd (cc (rw same at put, once))) ∙ is)
 
-    moves : (now : Files) (file : List ℕ) → Stores custody ledger now → now (name_of New place) ≡ Some file → (c : Files)
+    moves : (now : Files) (file : File) → Stores custody ledger now → now (name_of New place) ≡ Some file → (c : Files)
         → Stores custody ledger c ⊎ Stores custody next c → Stores custody next (with_file to (Some file) (with_file (name_of New place) None c))
     moves now file stores has c either =
-        let is : file ≡ ledger.payload i = ⊎_elim (λ there. cc (there, has)) (λ lacks. absurd (cc (lacks.0, has))) (stores.there i (name_of New place) at) in
+        let is : file ≡ ledger.file i = ⊎_elim (λ there. cc (there, has)) (λ lacks. absurd (cc (lacks.0, has))) (stores.there i (name_of New place) at) in
         rw is (is_moved custody ledger i (name_of New place) to keeps.fits.distinct at free (λ same. absurd (cc (ap (λ (m : Name). m.area) same))) refl c either)
 
     reaches : Reaches (λ c. Stores custody ledger c ⊎ Stores custody next c) (Stores custody next) whole calls.events (state a).seen (state a).images

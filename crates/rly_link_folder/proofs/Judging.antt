@@ -3,8 +3,12 @@ use Rattle.std.proofs.Common.{◌≡◌, ◌+◌, arith, refl, ℕ, Bool, List, 
 use Rattle.std.proofs.lemmas.Bool.Decides.{nat_tests}
 use Rattle.std.proofs.lemmas.List.{length-take}
 use Rattle.std.specs.Prelude.{min, nat_lt, take}
-use Rattle.rly_link_folder.specs.Inbox.{destination_of, longest_of, payload_in, routes_of}
-use Rattle.rly_link_folder.specs.InboxCalls.{destination_in, is_routed, payload_of, reason_for, reason_of}
+use Rattle.rly_folder.specs.FolderModel.{File, FolderState}
+use Rattle.rly_folder.specs.Names.{name_of}
+use Rattle.rly_folder.specs.declared.name.Area.{Area}
+use Rattle.rly_folder.specs.declared.name.Area.TheVariants.{New}
+use Rattle.rly_link_folder.specs.Inbox.{destination_of, Judges, longest_of, payload_in, routes_of}
+use Rattle.rly_link_folder.specs.InboxCalls.{destination_in, is_routed, payload_of, Reads, reason_for, reason_of}
 use Rattle.rly_link_folder.specs.declared.admission.Admission.{Admission}
 
 -- two bytes more than the longest payload tell whether one is longer, also behind two others
@@ -32,3 +36,9 @@ pub judges_law : (rules : Admission) (file : List ℕ)
     → reason_of (routes_of rules) (longest_of rules) (payload_in rules (take (longest_of rules + 2) file))
     ≡ reason_of (routes_of rules) (longest_of rules) (payload_in rules file)
 judges_law rules file = judges (is_routed (routes_of rules)) (longest_of rules) (destination_of rules) file
+
+-- a file that was read is judged by its bytes
+pub judged : {D : Type 0} (state : D → FolderState) (rules : Admission) (place : ℕ) (reason : Option Area) (file : File) (bytes : List ℕ) {old new : D}
+    → Reads state (name_of New place) (longest_of rules + 2) (Some file) old new → bytes ≡ file.bytes
+    → reason ≡ reason_of (routes_of rules) (longest_of rules) (payload_in rules bytes) → Judges state rules place reason old new
+judged state rules place reason file bytes reads is judge = record { found = file; reads = reads; is_reason = rw is at judge }

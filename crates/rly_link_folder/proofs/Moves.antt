@@ -3,7 +3,7 @@ use Rattle.std.proofs.Common.{[], Bool, false, true, inl, inr, List, refl, subst
 use Rattle.std.proofs.lemmas.Bool.{and_parts}
 use Rattle.std.specs.Prelude.{is_none, not}
 use Rattle.rly_folder.specs.FolderCalls.{are_possible, contents_at_end, Did, Faulted, files_after, FolderEvent, images_after, images_at_end, is_declined, IsOneCall, Rename, Sync}
-use Rattle.rly_folder.specs.FolderModel.{Contents, Files, with_file}
+use Rattle.rly_folder.specs.FolderModel.{Contents, File, Files, with_file}
 use Rattle.rly_folder.specs.declared.name.Name.{Name}
 use Rattle.rly_folder.proofs.Events.{contents-append, end_joined, possible-append}
 use Rattle.rly_link_folder.specs.InboxCalls.{renaming}
@@ -12,17 +12,17 @@ use Rattle.rly_link_folder.specs.Script.{AreMade}
 use Rattle.rly_link_folder.proofs.Handed.{Both, over_append, over_nil, Reaches}
 use Rattle.rly_link_folder.proofs.Writers.{before_call, can_be, one_call, PutKeeps, seen_before, writers_left, writers_right}
 
-a_file : (o : Option (List ℕ)) → is_none o ≡ false → (file : List ℕ) × (o ≡ Some file)
+a_file : (o : Option File) → is_none o ≡ false → (file : File) × (o ≡ Some file)
 a_file (Some file) able = (file, refl)
 a_file None able = absurd (cc able)
 
-can_rename : (o : Option (List ℕ)) → not (is_none o) ≡ true → is_none o ≡ false
+can_rename : (o : Option File) → not (is_none o) ≡ true → is_none o ≡ false
 can_rename (Some file) able = refl
 can_rename None able = absurd (cc able)
 
 module _ (ledger : Ledger) (puts : ℕ → Bool) (P Z : Files → Type 0) (puts_keep : PutKeeps ledger puts P) (puts_keep_too : PutKeeps ledger puts Z)
     (from to : Name)
-    (moves : (now : Files) (file : List ℕ) → P now → now from ≡ Some file → (c : Files) → P c ⊎ Z c → Z (with_file to (Some file) (with_file from None c))) where
+    (moves : (now : Files) (file : File) → P now → now from ≡ Some file → (c : Files) → P c ⊎ Z c → Z (with_file to (Some file) (with_file from None c))) where
   abbrev pub Either : Files → Type 0
   Either c = P c ⊎ Z c
 

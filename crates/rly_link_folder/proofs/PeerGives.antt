@@ -2,7 +2,7 @@
 use Rattle.std.proofs.Common.{◌≡◌, ◌⊎◌, ⊎_elim, ◌≤◌, ◌<◌, ◌+◌, ◌∙◌, ap, arith, inl, inr, refl, ℕ, Bool, true, false, List, [], ◌∷◌, None, Some, Option, length}
 use Rattle.std.proofs.lemmas.Bool.Decides.{nat_tests}
 use Rattle.std.specs.Prelude.{if◌then◌else◌, nat_lt}
-use Rattle.rly_folder.specs.FolderModel.{FolderState}
+use Rattle.rly_folder.specs.FolderModel.{File, FolderState}
 use Rattle.rly_folder.specs.Names.{name_of}
 use Rattle.rly_folder.specs.declared.name.Area.TheVariants.{Sent}
 use Rattle.rly_hop.specs.Spelling.{spelling}
@@ -67,14 +67,14 @@ module _ {F : Type 0} (state : F → FolderState) where
 
   module _ (packet : List ℕ) (old new : Peer F) (within : old.sent + 1 ≤ custody_of old.inbox + old.window) where
     module _ (mid : Peer F) (like : IsLike old mid) where
-      by_found : (found : Option (List ℕ)) → custody_of mid.inbox < mid.sent + 1 → mid.sent + 1 ≤ last_of mid.inbox
+      by_found : (found : Option File) → custody_of mid.inbox < mid.sent + 1 → mid.sent + 1 ≤ last_of mid.inbox
           → Reads state (name_of Sent (mid.sent + 1)) 8193 found (inbox_folder mid.inbox) (inbox_folder new.inbox)
           → Some packet ≡ packet_read mid found → custody_of new.inbox ≡ custody_of mid.inbox → last_of new.inbox ≡ last_of mid.inbox
           → new ≡ record mid { inbox = new.inbox; phase = phase_read mid found; sent = sent_read mid found }
           → IsNumbered state packet old new
       by_found None above durable reads is custody last rest = nothing packet is
       by_found (Some file) above durable reads is custody last rest =
-          let size : ℕ = length (payload_with mid file) in
+          let size : ℕ = length (payload_with mid file.bytes) in
           let short = given (nat_lt 8192 size) size packet (spelling (file_data mid (mid.sent + 1) file)) refl is in
           let next : new.sent ≡ mid.sent + 1 = rw short.2 at (ap (λ (p : Peer F). p.sent) rest) in
           record {

@@ -3,7 +3,7 @@ use Rattle.std.proofs.Common.{ap, arith, Bool, false, true, if◌then◌else◌,
 use Rattle.std.proofs.lemmas.Bool.{cases_eq, cases_lt}
 use Rattle.std.proofs.lemmas.Bool.Decides.{nat_tests}
 use Rattle.std.specs.Prelude.{◌==◌}
-use Rattle.rly_folder.specs.FolderModel.{Files, with_file}
+use Rattle.rly_folder.specs.FolderModel.{File, Files, with_file}
 use Rattle.rly_folder.specs.Names.{is_same_name, name_of}
 use Rattle.rly_folder.specs.declared.name.Area.TheVariants.{New, Sent}
 use Rattle.rly_folder.specs.declared.name.Name.{Name}
@@ -11,7 +11,7 @@ use Rattle.rly_folder.proofs.Names.{same_name, same_self}
 use Rattle.rly_link_folder.specs.Incoming.{Fits, is_incoming, Ledger, MayLack, placed, Stores}
 
 -- a name's file after a change of its own, or of another one
-pick : (Q : Option (List ℕ) → Type 0) (name changed : Name) (new old : Option (List ℕ)) → (name ≡ changed → Q new) → ((name ≡ changed → ⊥) → Q old)
+pick : (Q : Option File → Type 0) (name changed : Name) (new old : Option File) → (name ≡ changed → Q new) → ((name ≡ changed → ⊥) → Q old)
     → Q (if is_same_name name changed then new else old)
 pick Q name changed new old fresh rest = by_test (is_same_name name changed) refl
   where
@@ -22,7 +22,7 @@ pick Q name changed new old fresh rest = by_test (is_same_name name changed) ref
 some_same : (one other : Name) → Some one ≡ Some other → one ≡ other
 some_same one other is = cc is
 
-own_file : (name : Name) (new old : Option (List ℕ)) → (if is_same_name name name then new else old) ≡ new
+own_file : (name : Name) (new old : Option File) → (if is_same_name name name then new else old) ≡ new
 own_file name new old = rw (same_self name) refl
 
 abbrev pub Apart : Ledger → Type 0
@@ -30,9 +30,9 @@ Apart ledger = (i j : ℕ) (name : Name) → ledger.place i ≡ Some name → le
 
 -- a put of one of the files keeps it
 pub put_keeps : (custody : ℕ) (ledger : Ledger) → Apart ledger → (i : ℕ) (name : Name) → ledger.place i ≡ Some name → (c : Files) → Stores custody ledger c
-    → Stores custody ledger (with_file name (Some (ledger.payload i)) c)
+    → Stores custody ledger (with_file name (Some (ledger.file i)) c)
 put_keeps custody ledger apart i name is c stores = record {
-  there = λ j other place. pick (λ o. (o ≡ Some (ledger.payload j)) ⊎ ((o ≡ None) × MayLack custody (ledger.ended j) other)) other name _ _
+  there = λ j other place. pick (λ o. (o ≡ Some (ledger.file j)) ⊎ ((o ≡ None) × MayLack custody (ledger.ended j) other)) other name _ _
       (λ same. let one : j ≡ i = apart j i name (rw same at place) is in inl (rw one refl)) (λ differs. stores.there j other place);
   whose = λ other incoming. pick (λ o. IsSome o → (j : ℕ) × (ledger.place j ≡ Some other)) other name _ _
       (λ same some. (i, rw same is)) (λ differs. stores.whose other incoming);
@@ -84,7 +84,7 @@ module _ (custody : ℕ) (ledger : Ledger) (i : ℕ) (from to : Name) (apart : A
 
   -- the other files are where they were
   others_there : (c : Files) → Stores custody ledger c ⊎ Stores custody next c → (j : ℕ) (name : Name) → (j ≡ i → ⊥) → ledger.place j ≡ Some name
-      → (c name ≡ Some (ledger.payload j)) ⊎ ((c name ≡ None) × MayLack custody (ledger.ended j) name)
+      → (c name ≡ Some (ledger.file j)) ⊎ ((c name ≡ None) × MayLack custody (ledger.ended j) name)
   others_there c either j name differs place = ⊎_elim (λ stores. stores.there j name place)
       (λ stores. rw (other_ended j differs) at (stores.there j name (other_place j differs ∙ place))) either
 
@@ -97,14 +97,14 @@ module _ (custody : ℕ) (ledger : Ledger) (i : ℕ) (from to : Name) (apart : A
 
   -- the rename of its file
   pub is_moved : (from ≡ to → ⊥) → is_incoming to.area ≡ true → (c : Files) → Stores custody ledger c ⊎ Stores custody next c
-      → Stores custody next (with_file to (Some (ledger.payload i)) (with_file from None c))
+      → Stores custody next (with_file to (Some (ledger.file i)) (with_file from None c))
   is_moved moves home c either = record {
     there = λ j name place. ⊎_elim
         (λ is. let same : name ≡ to = some_same name to (sym place ∙ (rw is its_place)) in
-        inl (subst (λ n. with_file to (Some (ledger.payload i)) (with_file from None c) n ≡ Some (ledger.payload j)) (sym same) (own_file to _ _ ∙ (rw is refl))))
+        inl (subst (λ n. with_file to (Some (ledger.file i)) (with_file from None c) n ≡ Some (ledger.file j)) (sym same) (own_file to _ _ ∙ (rw is refl))))
         (λ differs. let was = rw (other_place j differs) at place in let neither = is_neither j name differs was in
-        pick (λ o. (o ≡ Some (ledger.payload j)) ⊎ ((o ≡ None) × MayLack custody (next.ended j) name)) name to _ _ (λ same. absurd (neither.0 same))
-        (λ another. pick (λ o. (o ≡ Some (ledger.payload j)) ⊎ ((o ≡ None) × MayLack custody (next.ended j) name)) name from _ _ (λ same. absurd (neither.1 same))
+        pick (λ o. (o ≡ Some (ledger.file j)) ⊎ ((o ≡ None) × MayLack custody (next.ended j) name)) name to _ _ (λ same. absurd (neither.0 same))
+        (λ another. pick (λ o. (o ≡ Some (ledger.file j)) ⊎ ((o ≡ None) × MayLack custody (next.ended j) name)) name from _ _ (λ same. absurd (neither.1 same))
         (λ also. rw (other_ended j differs) (others_there c either j name differs was))))
         (cases_eq j i);
     whose = λ name incoming. pick (λ o. IsSome o → (j : ℕ) × (next.place j ≡ Some name)) name to _ _
@@ -149,7 +149,7 @@ released before custody ledger le c stores = record {
 -- a removal of a number in the station's custody
 pub removed : (custody : ℕ) (ledger : Ledger) (n : ℕ) → n ≤ custody → (c : Files) → Stores custody ledger c → Stores custody ledger (with_file (name_of Sent n) None c)
 removed custody ledger n le c stores = record {
-  there = λ j name place. pick (λ o. (o ≡ Some (ledger.payload j)) ⊎ ((o ≡ None) × MayLack custody (ledger.ended j) name)) name (name_of Sent n) _ _
+  there = λ j name place. pick (λ o. (o ≡ Some (ledger.file j)) ⊎ ((o ≡ None) × MayLack custody (ledger.ended j) name)) name (name_of Sent n) _ _
       (λ same. inr (refl, rw same (inr (refl, le)))) (λ differs. stores.there j name place);
   whose = λ name incoming. pick (λ o. IsSome o → (j : ℕ) × (ledger.place j ≡ Some name)) name (name_of Sent n) _ _
       (λ same some. absurd (cc some)) (λ differs. stores.whose name incoming);

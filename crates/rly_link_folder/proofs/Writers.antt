@@ -24,7 +24,7 @@ module _ (ledger : Ledger) (puts : ℕ → Bool) where
 
   -- a put keeps a property of files
   abbrev pub PutKeeps : (Files → Type 0) → Type 0
-  PutKeeps P = (i n : ℕ) → ledger.place i ≡ Some (name_of New n) → puts i ≡ true → Keeps P (with_file (name_of New n) (Some (ledger.payload i)))
+  PutKeeps P = (i n : ℕ) → ledger.place i ≡ Some (name_of New n) → puts i ≡ true → Keeps P (with_file (name_of New n) (Some (ledger.file i)))
 
   module _ (P : Files → Type 0) (keeps : PutKeeps P) where
     pub others : (events : List FolderEvent) (contents : Contents) (I : Files → Type 0) → OnlyWriters ledger puts events → list_all is_other events ≡ true

@@ -1,7 +1,7 @@
 -- The neighbour station of a hop, played by a folder: its answers to packets.
 use Rattle.std.specs.Prelude.{◌≡◌, ◌≢◌, ◌⊎◌, ◌≤◌, ◌+◌, ◌&&◌, ◌==◌, ℕ, Bool, true, false, if◌then◌else◌, List, Option, None, Some, is_some, ⊤}
 use Rattle.std.specs.Option.{option_map}
-use Rattle.rly_folder.specs.FolderModel.{FolderState}
+use Rattle.rly_folder.specs.FolderModel.{File, file_with, FolderState}
 use Rattle.rly_hop.specs.declared.message.Message.{Message}
 use Rattle.rly_hop.specs.declared.message.Message.TheVariants as message
 use Rattle.rly_hop.specs.declared.receiving.event.InAction.{InAction}
@@ -23,20 +23,20 @@ pub record Neighbour (F : Type 0) : Type 0 where
   pub outbox : Outbox F
   pub replies : Replies
 
--- a Data of the hop's station for this one: its number and its payload
-abbrev pub data_of : Receiver → Option (Message (List ℕ)) → Option (ℕ × List ℕ)
+-- a Data of the hop's station for this one: its number, and the file of its payload and its limit
+abbrev pub data_of : Receiver → Option (Message (List ℕ)) → Option (ℕ × File)
 data_of r None = None
 data_of r (Some (message.Data from to number limit payload)) =
-    if (from.0 == r.peer.0) && (to.0 == r.own.0) then Some (number, payload) else None
+    if (from.0 == r.peer.0) && (to.0 == r.own.0) then Some (number, file_with payload limit) else None
 data_of r (Some (message.Custody from to last)) = None
 data_of r (Some (message.Refused from to number refusal)) = None
 data_of r (Some (message.Heard from to last bits)) = None
 
 -- an answer to the Data of a number, and what it made of the outbox
-pub record Answers {F : Type 0} (state : F → FolderState) (number : ℕ) (payload : List ℕ) (given : TakeAnswer) (old new : Outbox F)
+pub record Answers {F : Type 0} (state : F → FolderState) (number : ℕ) (file : File) (given : TakeAnswer) (old new : Outbox F)
     : Type 0 where
   pub next : number ≡ greatest_of old + 1
-      → Takes state (most_of old) (spare_of old) (spare_of new) (greatest_of old) number payload given
+      → Takes state (most_of old) (spare_of old) (spare_of new) (greatest_of old) number file given
       (folder_of old) (folder_of new)
   pub other : number ≢ greatest_of old + 1 → given ≡ answer.Already (greatest_of old)
   pub untouched : number ≢ greatest_of old + 1 → new ≡ old
@@ -64,7 +64,7 @@ with_reply replies (Some (message.Refused from to number refusal)) = with_refuse
 with_reply replies (Some (message.Heard from to last bits)) = replies
 
 -- what became of a packet: a Data is answered by the outbox, and anything else changes nothing
-abbrev pub Handles : {F : Type 0} → (F → FolderState) → Option (ℕ × List ℕ) → Neighbour F → Neighbour F → Type 0
+abbrev pub Handles : {F : Type 0} → (F → FolderState) → Option (ℕ × File) → Neighbour F → Neighbour F → Type 0
 Handles state None old new = new ≡ old
 Handles state (Some taken) old new = (given : TakeAnswer) × Answers state taken.0 taken.1 given old.outbox new.outbox
     × (new.core ≡ old.core) × (new.replies ≡ with_reply old.replies (reply_of (take_reply old.core taken.0 given)))

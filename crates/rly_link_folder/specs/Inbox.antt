@@ -1,7 +1,7 @@
 -- The state of an inbox in contracts, and what became of a file of `new/`.
 use Rattle.std.specs.Prelude.{◌≡◌, ◌⊎◌, ◌+◌, ◌≤◌, ◌<◌, ℕ, List, Option, None, Some}
 use Rattle.rly_folder.specs.declared.name.Area.{Area}
-use Rattle.rly_folder.specs.FolderModel.{FolderState}
+use Rattle.rly_folder.specs.FolderModel.{File, FolderState}
 use Rattle.rly_folder.specs.Names.{name_of}
 use Rattle.rly_folder.specs.declared.name.Area.TheVariants.{New, Sent}
 use Rattle.rly_link_folder.specs.InboxCalls.{FailsToJoin, FailsToMove, FailsToRefuse, Joins, Moves, payload_of, Reads, reason_of, Refuses}
@@ -45,9 +45,9 @@ payload_in rules file = payload_of (destination_of rules) file
 -- a file of `new/` was read, and a station with these rules refuses its datagram for this reason, or for none
 pub record Judges {D : Type 0} (state : D → FolderState) (rules : Admission) (place : ℕ) (reason : Option Area) (old new : D)
     : Type 0 where
-  pub found : List ℕ
+  pub found : File
   pub reads : Reads state (name_of New place) (longest_of rules + 2) (Some found) old new
-  pub is_reason : reason ≡ reason_of (routes_of rules) (longest_of rules) (payload_in rules found)
+  pub is_reason : reason ≡ reason_of (routes_of rules) (longest_of rules) (payload_in rules found.bytes)
 
 abbrev pub IsJudged : {D : Type 0} → (D → FolderState) → Admission → ℕ → Judged → D → D → Type 0
 IsJudged state rules place judged.Gone old new = Reads state (name_of New place) (longest_of rules + 2) None old new

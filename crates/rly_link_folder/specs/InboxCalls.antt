@@ -1,9 +1,9 @@
 -- The calls that give files numbers, read them, and remove them, in their order.
 use Rattle.std.specs.Prelude.{◌≡◌, ◌⊎◌, ◌==◌, ◌≤◌, ◌<◌, ◌+◌, ◌*◌, ◌-◌, ◌/◌, ◌%◌, ◌^◌, ⊤, ℕ, Bool, true, false, not, if◌then◌else◌, nat_lt, List, [], ◌∷◌, ◌++◌}
-use Rattle.std.specs.Prelude.{Option, None, Some, Contains, length, option_map, take}
+use Rattle.std.specs.Prelude.{Option, None, Some, Contains, length, option_map}
 use Rattle.std.specs.List.{list_any}
 use Rattle.rly_folder.specs.FolderCalls.{Did, Faulted, ListNames, Makes, ReadFile, Refrained, Remove, Rename, Sync}
-use Rattle.rly_folder.specs.FolderModel.{FolderState, IsListing}
+use Rattle.rly_folder.specs.FolderModel.{File, FolderState, front_of, IsListing}
 use Rattle.rly_folder.specs.Names.{name_of}
 use Rattle.rly_folder.specs.declared.name.Area.{Area}
 use Rattle.rly_folder.specs.declared.name.Area.TheVariants.{NoRoute, Sent, TooLong, TooShort}
@@ -54,10 +54,10 @@ pub data FailsToJoin {D : Type 0} (state : D → FolderState) (old new : D) : Ty
       → FailsToJoin state old new
 
 -- the first bytes of a file were read, or it wasn't there
-pub record Reads {D : Type 0} (state : D → FolderState) (name : Name) (most : ℕ) (found : Option (List ℕ)) (old new : D)
+pub record Reads {D : Type 0} (state : D → FolderState) (name : Name) (most : ℕ) (found : Option File) (old new : D)
     : Type 0 where
   pub makes : Makes state (ReadFile name) Did old new
-  pub file : (state old).honest → found ≡ option_map (take most) ((state new).seen.files name)
+  pub file : (state old).honest → found ≡ option_map (front_of most) ((state new).seen.files name)
 
 -- a file gets another name, durably
 abbrev pub renaming : Name → Name → List Step

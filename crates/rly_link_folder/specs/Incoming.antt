@@ -1,7 +1,7 @@
 -- The files that writers put into a folder, on their way to a station's custody.
 use Rattle.std.specs.Prelude.{◌≡◌, ◌⊎◌, ◌≤◌, ◌<◌, ◌==◌, ℕ, Bool, true, false, if◌then◌else◌, List, [], ◌∷◌, Option, None, Some, IsSome, ⊤}
 use Rattle.rly_folder.specs.FolderCalls.{Declined, Done, Failed, FolderEvent, Other}
-use Rattle.rly_folder.specs.FolderModel.{Files, FolderState, LeavesOnly}
+use Rattle.rly_folder.specs.FolderModel.{File, Files, FolderState, LeavesOnly}
 use Rattle.rly_folder.specs.Names.{name_of}
 use Rattle.rly_folder.specs.declared.name.Area.{Area}
 use Rattle.rly_folder.specs.declared.name.Area.TheVariants.{Kept, New, NoRoute, Out, Printed, Sent, TooLong, TooShort}
@@ -9,7 +9,7 @@ use Rattle.rly_folder.specs.declared.name.Name.{Name}
 
 -- all files that were ever put, or are being put
 pub record Ledger : Type 0 where
-  pub payload : ℕ → List ℕ
+  pub file : ℕ → File
   -- the one name of each file; none before its put
   pub place : ℕ → Option Name
   -- its put ended: no crash undoes it
@@ -33,7 +33,7 @@ MayLack custody ended name =
 
 -- each file is whole under its one name, and no name has a copy or another file
 pub record Stores (custody : ℕ) (ledger : Ledger) (files : Files) : Type 0 where
-  pub there : (i : ℕ) (name : Name) → ledger.place i ≡ Some name → (files name ≡ Some (ledger.payload i))
+  pub there : (i : ℕ) (name : Name) → ledger.place i ≡ Some name → (files name ≡ Some (ledger.file i))
       ⊎ ((files name ≡ None) × MayLack custody (ledger.ended i) name)
   pub whose : (name : Name) → is_incoming name.area ≡ true → IsSome (files name)
       → (i : ℕ) × (ledger.place i ≡ Some name)
@@ -55,7 +55,7 @@ pub record Keeps (custody last : ℕ) (ledger : Ledger) (folder : FolderState) :
 -- a file has another name, and stays
 abbrev pub placed : ℕ → Name → Ledger → Ledger
 placed i to ledger = record {
-  payload = ledger.payload;
+  file = ledger.file;
   place = λ j. if j == i then Some to else ledger.place j;
   ended = λ j. if j == i then true else ledger.ended j;
 }
@@ -66,7 +66,7 @@ IsWriter ledger puts (Done call) = ⊤
 IsWriter ledger puts (Declined call) = ⊤
 IsWriter ledger puts (Failed call done hidden) = ⊤
 IsWriter ledger puts (Other name file) = (i : ℕ) × (number : ℕ) × (name ≡ name_of New number)
-    × (ledger.place i ≡ Some name) × (file ≡ Some (ledger.payload i)) × (puts i ≡ true)
+    × (ledger.place i ≡ Some name) × (file ≡ Some (ledger.file i)) × (puts i ≡ true)
 
 -- other programs only put files
 abbrev pub OnlyWriters : Ledger → (ℕ → Bool) → List FolderEvent → Type 0

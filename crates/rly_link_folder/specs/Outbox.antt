@@ -1,7 +1,7 @@
 -- The state of an outbox in contracts, and the answers to a Data.
-use Rattle.std.specs.Prelude.{◌≡◌, ◌⊎◌, ◌+◌, ◌≤◌, ℕ, true, false, List}
+use Rattle.std.specs.Prelude.{◌≡◌, ◌⊎◌, ◌+◌, ◌≤◌, ℕ, true, false}
 use Rattle.rly_core.specs.declared.refusal.Refusal.TheVariants.{Full}
-use Rattle.rly_folder.specs.FolderModel.{FolderState}
+use Rattle.rly_folder.specs.FolderModel.{File, FolderState}
 use Rattle.rly_hop.specs.declared.receiving.event.TakeAnswer.{TakeAnswer}
 use Rattle.rly_hop.specs.declared.receiving.event.TakeAnswer.TheVariants as answer
 use Rattle.rly_link_folder.specs.OutboxCalls.{FailsToList, HandsOut, HasRoom}
@@ -27,17 +27,17 @@ abbrev pub FindsRoom : {F : Type 0} → (F → FolderState) → Outbox F → Out
 FindsRoom state old new = HasRoom state (most_of old) (spare_of old) (spare_of new) (folder_of old) (folder_of new)
 
 -- the calls of the folder for the next Data, and its answer: so many files may be added before it and after it
-abbrev pub Takes : {D : Type 0} → (D → FolderState) → (most spare left greatest number : ℕ) → List ℕ → TakeAnswer → D → D
+abbrev pub Takes : {D : Type 0} → (D → FolderState) → (most spare left greatest number : ℕ) → File → TakeAnswer → D → D
     → Type 0
-Takes {D} state most spare left greatest number payload answer.Taken old new =
-    (listed : D) × HasRoom state most spare (left + 1) old listed × HandsOut state greatest number payload true listed new
-Takes state most spare left greatest number payload (answer.Already last) old new = ⊥
-Takes state most spare left greatest number payload (answer.Refused refusal) old new =
+Takes {D} state most spare left greatest number file answer.Taken old new =
+    (listed : D) × HasRoom state most spare (left + 1) old listed × HandsOut state greatest number file true listed new
+Takes state most spare left greatest number file (answer.Already last) old new = ⊥
+Takes state most spare left greatest number file (answer.Refused refusal) old new =
     (refusal ≡ Full) × (left ≡ 0) × HasRoom state most spare 0 old new
-Takes {D} state most spare left greatest number payload answer.Other old new = (left ≡ 0)
+Takes {D} state most spare left greatest number file answer.Other old new = (left ≡ 0)
     × (FailsToList state spare old new
     ⊎ ((listed : D) × (room : ℕ) × (1 ≤ room) × HasRoom state most spare room old listed
-    × HandsOut state greatest number payload false listed new))
+    × HandsOut state greatest number file false listed new))
 
 -- the greatest number after an answer to the Data of a number
 abbrev pub greatest_after : ℕ → ℕ → TakeAnswer → ℕ

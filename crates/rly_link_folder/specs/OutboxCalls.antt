@@ -1,7 +1,7 @@
 -- The calls that make a datagram a file, in their order.
 use Rattle.std.specs.Prelude.{◌≡◌, ◌⊎◌, ◌≤◌, ◌<◌, ◌-◌, ℕ, Bool, true, false, if◌then◌else◌, List, [], ◌∷◌, ◌++◌, get_or, length}
 use Rattle.rly_folder.specs.FolderCalls.{Did, Faulted, Link, ListNames, Makes, Outcome, Refrained, Rename, Sync, WriteHidden}
-use Rattle.rly_folder.specs.FolderModel.{FolderState, IsListing}
+use Rattle.rly_folder.specs.FolderModel.{File, file_with, FolderState, IsListing}
 use Rattle.rly_folder.specs.Names.{name_of}
 use Rattle.rly_folder.specs.declared.name.Area.TheVariants.{Kept, Out}
 use Rattle.rly_folder.specs.declared.name.Name.{Name}
@@ -13,8 +13,8 @@ abbrev pub if_linked : Bool → Outcome
 if_linked linked = if linked then Did else Refrained
 
 -- a file gets a name, durably
-abbrev pub putting : List ℕ → Name → Bool → List Step
-putting bytes to linked = (WriteHidden bytes, Did) ∷ (Link to, if_linked linked) ∷ (Sync, Did) ∷ []
+abbrev pub putting : File → Name → Bool → List Step
+putting file to linked = (WriteHidden file, Did) ∷ (Link to, if_linked linked) ∷ (Sync, Did) ∷ []
 
 -- the hidden name of the greatest number is moved, durably
 abbrev pub moving : ℕ → ℕ → List Step
@@ -23,7 +23,7 @@ moving from to = (Rename (name_of Kept from) (name_of Kept to), Did) ∷ (Sync, 
 -- there is none to move: one is made
 abbrev pub making : ℕ → ℕ → Bool → List Step
 making from to linked =
-    (Rename (name_of Kept from) (name_of Kept to), Refrained) ∷ putting [] (name_of Kept to) linked
+    (Rename (name_of Kept from) (name_of Kept to), Refrained) ∷ putting (file_with [] 0) (name_of Kept to) linked
 
 abbrev pub IsKeeping : ℕ → ℕ → List Step → Type 0
 IsKeeping from to steps = (steps ≡ moving from to) ⊎ ((linked : Bool) × (steps ≡ making from to linked))
@@ -35,12 +35,12 @@ pub record Keeps {D : Type 0} (state : D → FolderState) (from to : ℕ) (whole
   pub makes : MakesEach state steps whole old new
 
 -- the file is durable under its number before the number is kept
-pub record HandsOut {D : Type 0} (state : D → FolderState) (greatest number : ℕ) (payload : List ℕ) (whole : Bool)
+pub record HandsOut {D : Type 0} (state : D → FolderState) (greatest number : ℕ) (file : File) (whole : Bool)
     (old new : D) : Type 0 where
   pub linked : Bool
   pub steps : List Step
   pub keeping : IsKeeping greatest number steps
-  pub makes : MakesEach state (putting payload (name_of Out number) linked ++ steps) whole old new
+  pub makes : MakesEach state (putting file (name_of Out number) linked ++ steps) whole old new
 
 -- the files handed out were listed: so many may be added until there are `most`
 pub record ListsRoom {D : Type 0} (state : D → FolderState) (most left : ℕ) (old new : D) : Type 0 where

@@ -3,7 +3,7 @@ use Rattle.std.specs.Prelude.{◌≡◌, ◌⊎◌, ◌≤◌, ◌<◌, ◌+◌,
 use Rattle.std.specs.Prelude.{List, [], ◌∷◌, ◌++◌, length, Option, None, Some}
 use Rattle.std.specs.Option.{option_to_list}
 use Rattle.rly_folder.specs.FolderCalls.{Did, Faulted, ListNames, Makes, ReadFile}
-use Rattle.rly_folder.specs.FolderModel.{FolderState, IsListing}
+use Rattle.rly_folder.specs.FolderModel.{File, FolderState, IsListing}
 use Rattle.rly_folder.specs.Names.{name_of}
 use Rattle.rly_folder.specs.declared.name.Area.TheVariants.{New, Sent}
 use Rattle.rly_hop.specs.Spelling.{spelling}
@@ -30,7 +30,7 @@ pub record Peer (F : Type 0) : Type 0 where
   pub rules : Admission
   -- so many Data may be on their way
   pub window : ℕ
-  -- the age limit in the Data of a file, in microseconds; 0 = none
+  -- the age limit in the Data of a file that has none of its own, in microseconds; 0 = none
   pub limit : ℕ
   -- the destination in a Data 0
   pub probe : ℕ
@@ -169,12 +169,17 @@ data_with peer number limit payload = message.Data peer.own peer.station number 
 abbrev pub question : {F : Type 0} → Peer F → Message (List ℕ)
 question peer = data_with peer 0 0 (destination_bytes peer.probe)
 
--- the payload of a file, and its Data under a number
+-- the payload of a file with these bytes
 abbrev pub payload_with : {F : Type 0} → Peer F → List ℕ → List ℕ
-payload_with peer file = payload_in peer.rules file
+payload_with peer bytes = payload_in peer.rules bytes
 
-abbrev pub file_data : {F : Type 0} → Peer F → ℕ → List ℕ → Message (List ℕ)
-file_data peer number file = data_with peer number peer.limit (payload_with peer file)
+-- the age limit of a file's Data: the file's own, or that of all files if it has none
+abbrev pub limit_with : {F : Type 0} → Peer F → ℕ → ℕ
+limit_with peer limit = if limit == 0 then peer.limit else limit
+
+-- the Data of a file under a number
+abbrev pub file_data : {F : Type 0} → Peer F → ℕ → File → Message (List ℕ)
+file_data peer number file = data_with peer number (limit_with peer file.limit) (payload_with peer file.bytes)
 
 -- one more may be on its way
 abbrev pub has_window : {F : Type 0} → Peer F → Bool
@@ -186,26 +191,26 @@ has_more peer = is_serving peer.phase && has_window peer && nat_lt 0 (length pee
 
 -- after the file of the next number was read: a payload that no message holds is as one that the station refuses, and a
 -- file that is gone as a call that failed
-abbrev pub packet_read : {F : Type 0} → Peer F → Option (List ℕ) → Option (List ℕ)
+abbrev pub packet_read : {F : Type 0} → Peer F → Option File → Option (List ℕ)
 packet_read peer None = None
 packet_read peer (Some file) =
-    if nat_lt 8192 (length (payload_with peer file)) then None
+    if nat_lt 8192 (length (payload_with peer file.bytes)) then None
     else Some (spelling (file_data peer (peer.sent + 1) file))
 
-abbrev pub phase_read : {F : Type 0} → Peer F → Option (List ℕ) → Phase
+abbrev pub phase_read : {F : Type 0} → Peer F → Option File → Phase
 phase_read peer None = Failed
 phase_read peer (Some file) =
-    if nat_lt 8192 (length (payload_with peer file)) then Refused (peer.sent + 1) 5 else peer.phase
+    if nat_lt 8192 (length (payload_with peer file.bytes)) then Refused (peer.sent + 1) 5 else peer.phase
 
-abbrev pub sent_read : {F : Type 0} → Peer F → Option (List ℕ) → ℕ
+abbrev pub sent_read : {F : Type 0} → Peer F → Option File → ℕ
 sent_read peer None = peer.sent
-sent_read peer (Some file) = if nat_lt 8192 (length (payload_with peer file)) then peer.sent else peer.sent + 1
+sent_read peer (Some file) = if nat_lt 8192 (length (payload_with peer file.bytes)) then peer.sent else peer.sent + 1
 
 -- the Data of the next number, with its whole file, which is durable under that number and isn't in the station's custody
 pub record GivesFile {F : Type 0} (state : F → FolderState) (packet : Option (List ℕ)) (old new : Peer F) : Type 0 where
   pub above : custody_of old.inbox < old.sent + 1
   pub durable : old.sent + 1 ≤ last_of old.inbox
-  pub found : Option (List ℕ)
+  pub found : Option File
   pub reads : Reads state (name_of Sent (old.sent + 1)) 8193 found (inbox_folder old.inbox) (inbox_folder new.inbox)
   pub packet_is : packet ≡ packet_read old found
   pub numbers : HasSameNumbers old.inbox new.inbox

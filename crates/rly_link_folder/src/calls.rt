@@ -1,6 +1,7 @@
 //! The calls that give a file its name, keep the greatest number, and find it.
 
-ghost use Rattle.std.specs.Prelude.{◌≡◌, ◌-◌, Bool, IfOk, OnErr, OnOk, false, get_or, is_ok, length, true};
+ghost use Rattle.std.specs.Prelude.{◌≡◌, ◌-◌, ◌<◌, ◌^◌, Bool, IfOk, OnErr, OnOk, false, get_or, is_ok, length, true};
+ghost use Rattle.rly_folder.specs.FolderModel.{file_with};
 ghost use Rattle.rly_folder.specs.FolderCalls.{Faulted, ListNames, Makes};
 ghost use Rattle.rly_folder.specs.declared.name.Area.TheVariants.{Out};
 ghost use Rattle.rly_link_folder.specs.OutboxCalls.{FailsToList, FailsToOpen, Finds, HandsOut, HasRoom, Keeps, Opens, putting};
@@ -9,10 +10,12 @@ ghost use Rattle.rly_link_folder.specs.Script.{MakesEach};
 use rly_folder::{Area, Folder, FolderFault, Name};
 
 /// Writes a file and gives it a name, durably. A file that has the name stays.
-fn put<F: Folder>(folder: &mut F, bytes: &[u8], to: Name) -> Result<(), FolderFault>
-    ensures { (linked : Bool) × MakesEach F.state (putting bytes.now to linked) (is_ok result) folder.old folder.new }
+fn put<F: Folder>(folder: &mut F, bytes: &[u8], limit: u64, to: Name) -> Result<(), FolderFault>
+    requires { limit < 2 ^ 40 }
+    ensures { (linked : Bool) × MakesEach F.state (putting (file_with bytes.now limit) to linked) (is_ok result)
+        folder.old folder.new }
 {
-    folder.write(bytes)?;
+    folder.write(bytes, limit)?;
     folder.link(to)?;
     folder.sync()
 }
@@ -24,22 +27,24 @@ fn keep<F: Folder>(folder: &mut F, from: u64, to: u64) -> Result<(), FolderFault
     let area = Area::Kept;
     match folder.rename(Name { area, number: from }, Name { area, number: to }) {
         Ok(true) => folder.sync(),
-        Ok(false) => put(folder, &[], Name { area, number: to }),
+        Ok(false) => put(folder, &[], 0, Name { area, number: to }),
         Err(fault) => Err(fault),
     }
 }
 
-/// Makes a datagram the file of its number, durably, and then that number the greatest, durably.
+/// Makes a datagram with its limit the file of its number, durably, and then that number the greatest, durably.
 pub(crate) fn hand_out<F: Folder>(
     folder: &mut F,
     greatest: u64,
     number: u64,
+    limit: u64,
     payload: &[u8],
 ) -> Result<(), FolderFault>
-    ensures { HandsOut F.state greatest number payload.now (is_ok result) folder.old folder.new }
+    requires { limit < 2 ^ 40 }
+    ensures { HandsOut F.state greatest number (file_with payload.now limit) (is_ok result) folder.old folder.new }
 {
     let area = Area::Out;
-    put(folder, payload, Name { area, number })?;
+    put(folder, payload, limit, Name { area, number })?;
     keep(folder, greatest, number)
 }
 

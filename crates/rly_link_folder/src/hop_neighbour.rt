@@ -1,10 +1,11 @@
 // The neighbour station of a hop, played by a folder.
 ghost use Rattle.std.specs.Option.{option_map};
-ghost use Rattle.std.specs.Prelude.{◌≡◌, ◌≤◌, IfNone, IfSome, None, Some, false, length, take};
+ghost use Rattle.std.specs.Prelude.{◌≡◌, ◌≤◌, ◌<◌, ◌^◌, IfNone, IfSome, None, Some, false, length, take};
 ghost use Rattle.rly_hop.specs.Payloads.{message_bytes};
 ghost use Rattle.rly_hop.specs.Receiving.{receiver, take_reply};
-ghost use Rattle.rly_hop.specs.Spelling.{IsStation, spelling, write_refusal};
+ghost use Rattle.rly_hop.specs.Spelling.{IsMessage, IsStation, spelling, write_refusal};
 ghost use Rattle.rly_link.specs.LinkHistory.{message_in};
+ghost use Rattle.rly_folder.specs.FolderModel.{file_with};
 ghost use Rattle.rly_link_folder.specs.HopNeighbour.{after_reply, data_of, next_reply, reply_of, with_custody, with_refused, with_reply};
 
 use crate::Outbox;
@@ -87,10 +88,10 @@ impl<F: Folder> HopNeighbour<F> {
         let Some(message) = message_of(packet) else {
             return;
         };
-        let Some((number, payload)) = taken_from(&mut self.core, message) else {
+        let Some((number, limit, payload)) = taken_from(&mut self.core, message) else {
             return;
         };
-        let answer = self.outbox.take(number, payload);
+        let answer = self.outbox.take(number, limit, payload);
         let reply = reply_to(&mut self.core, number, answer);
         self.replies.add(reply);
     }
@@ -147,21 +148,25 @@ impl<F: Folder> HopNeighbour<F> {
     }
 }
 
-/// The number and the payload of a Data for this station, if the message is one. It is answered before the next.
-fn taken_from<'a>(core: &mut Receiving, message: Message<&'a [u8]>) -> Option<(u64, &'a [u8])>
+/// The number, the limit and the payload of a Data for this station, if the message is one. It is answered before the
+/// next.
+fn taken_from<'a>(core: &mut Receiving, message: Message<&'a [u8]>) -> Option<(u64, u64, &'a [u8])>
     requires idle { core.old.pending ≡ None }
-    ensures found { option_map (λ taken. (taken.0, taken.1.now)) result
+    requires fits { IsMessage (message_bytes message) }
+    ensures found { option_map (λ taken. (taken.0, file_with taken.2.now taken.1)) result
         ≡ data_of core.old (Some (message_bytes message.entry)) }
+    ensures limit { IfSome result (λ taken. taken.1 < 2 ^ 40) }
     ensures none { IfNone result (core.new ≡ core.old) }
     ensures some { IfSome result (λ taken. core.new ≡ record core.old { pending = Some taken.0 }) }
 {
     match message {
         Message::Data {
             number,
+            limit,
             payload,
             ..
         } => match core.step(InEvent::Heard(message)) {
-            Some(_) => Some((number, payload)),
+            Some(_) => Some((number, limit, payload)),
             None => None,
         },
         Message::Custody { .. } | Message::Refused { .. } | Message::Heard { .. } => None,

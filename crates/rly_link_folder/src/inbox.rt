@@ -2,7 +2,7 @@
 ghost use Rattle.std.specs.Prelude.{◌≡◌, IfErr, IfOk, IsTrue, None, Ok, OnErr, false, is_ok};
 ghost use Rattle.std.specs.Prelude.{option_map, true};
 ghost use Rattle.rly_folder.specs.FolderCalls.{Faulted, ListNames, Makes, ReadFile, outcome_if};
-ghost use Rattle.rly_folder.specs.FolderModel.{IsListing};
+ghost use Rattle.rly_folder.specs.FolderModel.{as_file, IsListing};
 ghost use Rattle.rly_folder.specs.Names.{name_of};
 ghost use Rattle.rly_folder.specs.declared.name.Area.TheVariants.{New, Sent};
 ghost use Rattle.rly_link_folder.specs.InboxCalls.{FailsToJoin, FailsToRelease, Joins, Reads, Releases};
@@ -10,7 +10,7 @@ ghost use Rattle.rly_link_folder.specs.Inbox.{last_after};
 
 use crate::Admission;
 use crate::inbox_calls::{Joined, enter, join, release};
-use rly_folder::{Area, Folder, FolderFault, Name};
+use rly_folder::{Area, Folder, FolderFault, FolderFile, Name};
 
 /// What became of a file of `new/`.
 #[derive(Clone, Copy, Debug, PartialEq, Eq, Drop)]
@@ -166,11 +166,11 @@ impl<F: Folder> Inbox<F> {
         }
     }
 
-    /// Returns the first `most` bytes of the file of a number, for the Data of that number: only of a number that is durable
+    /// Returns the first `most` bytes of the file of a number, and its limit, for the Data of that number: only of a number that is durable
     /// and above the station's, else `None` without a call.
-    pub fn give(&mut self, number: u64, most: usize) -> Result<Option<Vec<u8>>, FolderFault>
+    pub fn give(&mut self, number: u64, most: usize) -> Result<Option<FolderFile>, FolderFault>
         ensures file { IsToGive self.old number → IfOk result
-            (λ found. Reads F.state (name_of Sent number) most (option_map (λ bytes. bytes.items) found)
+            (λ found. Reads F.state (name_of Sent number) most (option_map as_file found)
             (inbox_folder self.old) (inbox_folder self.new)) }
         ensures err { OnErr result (Makes F.state (ReadFile (name_of Sent number)) Faulted
             (inbox_folder self.old) (inbox_folder self.new)) }

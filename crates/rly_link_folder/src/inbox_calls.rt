@@ -65,7 +65,7 @@ fn judge<F: Folder>(folder: &mut F, rules: &Admission, place: u64) -> Result<Jud
     };
     match folder.read(name, rules.bytes_to_read())? {
         None => Ok(Judged::Gone),
-        Some(found) => match rules.reason(&found) {
+        Some(found) => match rules.reason(&found.bytes) {
             None => Ok(Judged::Fits),
             Some(area) => Ok(Judged::Refused(area)),
         },

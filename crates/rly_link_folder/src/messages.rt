@@ -3,14 +3,15 @@
 ghost use Rattle.std.specs.Option.{option_map};
 ghost use Rattle.std.specs.Prelude.{◌≡◌, ◌≤◌, IfSome, None, Some, length, take};
 ghost use Rattle.rly_hop.specs.Payloads.{message_bytes};
-ghost use Rattle.rly_hop.specs.Spelling.{spelling, write_refusal};
+ghost use Rattle.rly_hop.specs.Spelling.{IsMessage, spelling, write_refusal};
 ghost use Rattle.rly_link.specs.LinkHistory.{message_in};
 
 use rly_hop::{MAX_MESSAGE, Message, read_message, write_message};
 
 /// The message in a packet, if there is one.
 pub(crate) fn message_of<'a>(packet: &'a [u8]) -> Option<Message<&'a [u8]>>
-    ensures { option_map message_bytes result ≡ message_in (Some packet.now) }
+    ensures message { option_map message_bytes result ≡ message_in (Some packet.now) }
+    ensures fits { IfSome result (λ message. IsMessage (message_bytes message)) }
 {
     match read_message(packet) {
         Ok(message) => Some(message),

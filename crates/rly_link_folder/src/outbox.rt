@@ -1,5 +1,6 @@
 // The outgoing half of a folder that plays a neighbour.
-ghost use Rattle.std.specs.Prelude.{◌≡◌, ◌≢◌, ◌+◌, IfErr, IfOk, OnErr, nat_lt};
+ghost use Rattle.std.specs.Prelude.{◌≡◌, ◌≢◌, ◌<◌, ◌+◌, ◌^◌, IfErr, IfOk, OnErr, nat_lt};
+ghost use Rattle.rly_folder.specs.FolderModel.{file_with};
 ghost use Rattle.rly_link_folder.specs.OutboxCalls.{FailsToList, FailsToOpen, Opens};
 
 use crate::calls::{hand_out, recover, room_in};
@@ -39,13 +40,15 @@ impl<F: Folder> Outbox<F> {
         }
     }
 
-    /// Handles the Data of this number: the next one becomes a file, and is answered `Taken` once both it and its number
-    /// are durable; `Refused(Full)` if there are `most` files; `Other`, which sends nothing, if a call failed. The same
-    /// Data may come again after each of these. Any other Data is answered by the greatest number.
-    pub fn take(&mut self, number: u64, payload: &[u8]) -> TakeAnswer
+    /// Handles the Data of this number: the next one becomes a file with its age limit in microseconds, and is answered
+    /// `Taken` once both it and its number are durable; `Refused(Full)` if there are `most` files; `Other`, which sends
+    /// nothing, if a call failed. The same Data may come again after each of these. Any other Data is answered by the
+    /// greatest number.
+    pub fn take(&mut self, number: u64, limit: u64, payload: &[u8]) -> TakeAnswer
+        requires { limit < 2 ^ 40 }
         ensures next { number ≡ greatest_of self.old + 1
             → Takes F.state (most_of self.old) (spare_of self.old) (spare_of self.new) (greatest_of self.old) number
-            payload.now result (folder_of self.old) (folder_of self.new) }
+            (file_with payload.now limit) result (folder_of self.old) (folder_of self.new) }
         ensures other { number ≢ greatest_of self.old + 1 → result ≡ TakeAnswer.Already (greatest_of self.old) }
         ensures untouched { number ≢ greatest_of self.old + 1 → self.new ≡ self.old }
         ensures greatest { greatest_of self.new ≡ greatest_after (greatest_of self.old) number result }
@@ -56,7 +59,7 @@ impl<F: Folder> Outbox<F> {
         }
         match room_in(&mut self.folder, self.most, self.spare) {
             Ok(0) => TakeAnswer::Refused(Refusal::Full),
-            Ok(room) => match hand_out(&mut self.folder, self.greatest, number, payload) {
+            Ok(room) => match hand_out(&mut self.folder, self.greatest, number, limit, payload) {
                 Ok(()) => {
                     self.greatest = number;
                     self.spare = room - 1;

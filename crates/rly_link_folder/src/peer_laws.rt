@@ -12,7 +12,7 @@ use rly_folder::Folder;
 
 /// Each packet that a neighbour gives is Data 0, or the Data of the number after the last one on its way, which is in
 /// `sent/` durably, isn't in the station's custody, and isn't further from it than the window: with that whole file, behind
-/// the destination of all files if there is one, and with the age limit of all files.
+/// the destination of all files if there is one, and with the file's own age limit, or that of all files if it has none.
 pub fn law_gives<F: Folder>(_folder: &F)
     ensures { (packet : List ℕ) (old new : Peer F) → custody_of old.inbox ≤ old.sent
         → GivesPacket F.state (Some packet) old new

@@ -2,6 +2,7 @@
 ghost use Rattle.std.specs.Option.{option_map};
 ghost use Rattle.std.specs.Prelude.{◌≡◌, ◌⊎◌, ◌≤◌, ◌<◌, ◌+◌, ◌^◌, ◌&&◌, ◌==◌, [], false, None, Some, IfNone, IfOk, IfSome, OnErr};
 ghost use Rattle.std.specs.Prelude.{if◌then◌else◌, length, nat_le, nat_lt, take};
+ghost use Rattle.rly_folder.specs.FolderModel.{as_file};
 ghost use Rattle.rly_folder.specs.FolderCalls.{Faulted, Makes, ReadFile};
 ghost use Rattle.rly_folder.specs.Names.{name_of};
 ghost use Rattle.rly_folder.specs.declared.name.Area.TheVariants.{Sent};
@@ -18,7 +19,7 @@ use crate::phase::{is_for_good, phase_covered};
 use crate::{Admission, Entry, Inbox, Phase};
 use rly_core::Refusal;
 use rly_core::limits::MAX_PAYLOAD;
-use rly_folder::{Folder, FolderFault};
+use rly_folder::{Folder, FolderFault, FolderFile};
 use rly_hop::{MAX_MESSAGE, Message, StationId};
 use std::alloc::Global;
 use std::collections::VecDeque;
@@ -77,12 +78,12 @@ impl<F: Folder> PeerNeighbour<F> {
     ghost use Rattle.rly_link_folder.specs.PeerNeighbour.{CoversIf, CoversTo, EntersAndGives, EntersNext, EntersPlace};
     ghost use Rattle.rly_link_folder.specs.PeerNeighbour.{FailsAtPlace, FailsToFind, FindsIn, Gives, GivesNumber};
     ghost use Rattle.rly_link_folder.specs.PeerNeighbour.{HasSameNumbers, Hears, HearsCustody, Lists, Opens, ServesIf};
-    ghost use Rattle.rly_link_folder.specs.PeerNeighbour.{data_with, file_data, has_more, has_window, is_further};
+    ghost use Rattle.rly_link_folder.specs.PeerNeighbour.{data_with, file_data, has_more, has_window, is_further, limit_with};
     ghost use Rattle.rly_link_folder.specs.PeerNeighbour.{is_on_its_way, is_serving, packet_read, payload_with, phase_read};
     ghost use Rattle.rly_link_folder.specs.PeerNeighbour.{phase_refused, is_pending, question, sent_read, tried_again};
 
     /// The station `own`, which this folder plays, for the peer's station `station`. At most `window` Data are on their way,
-    /// each with the age limit `limit` in microseconds; 0 = none. It asks first for the station's last number, by a Data 0 for
+    /// each with the age limit of its file, or with `limit` if that has none, in microseconds; 0 = none. It asks first for the station's last number, by a Data 0 for
     /// the destination `probe`: one that has a route there.
     pub fn new(
         alloc: Global,
@@ -345,11 +346,11 @@ impl<F: Folder> PeerNeighbour<F> {
     }
 
     /// Reads the file of a number, and one byte more than a message holds.
-    fn read(&mut self, number: u64) -> Result<Option<Vec<u8>>, FolderFault>
+    fn read(&mut self, number: u64) -> Result<Option<FolderFile>, FolderFault>
         requires next { number ≡ self.old.sent + 1 }
         requires durable { number ≤ last_of self.old.inbox }
         ensures reads { IfOk result
-            (λ found. Reads F.state (name_of Sent number) 8193 (option_map (λ bytes. bytes.items) found)
+            (λ found. Reads F.state (name_of Sent number) 8193 (option_map as_file found)
             (inbox_folder self.old.inbox) (inbox_folder self.new.inbox)) }
         ensures err { OnErr result (Makes F.state (ReadFile (name_of Sent number)) Faulted
             (inbox_folder self.old.inbox) (inbox_folder self.new.inbox)) }
@@ -361,18 +362,18 @@ impl<F: Folder> PeerNeighbour<F> {
     }
 
     /// Passes the file of the next number on as its Data. One that no message holds is as one that the station refuses.
-    fn pass(&mut self, number: u64, file: &[u8], buffer: &mut [u8]) -> Option<usize>
+    fn pass(&mut self, number: u64, file: &FolderFile, buffer: &mut [u8]) -> Option<usize>
         requires room { MAX_MESSAGE ≤ length buffer.old }
         requires next { number ≡ self.old.sent + 1 }
         requires durable { number ≤ last_of self.old.inbox }
         ensures bound { IfSome result (λ count. count ≤ length buffer.new) }
-        ensures packet { option_map (λ count. take count buffer.new) result ≡ packet_read self.old (Some file.now) }
+        ensures packet { option_map (λ count. take count buffer.new) result ≡ packet_read self.old (Some (as_file file.now)) }
         ensures after { self.new ≡ record self.old {
-          phase = phase_read self.old (Some file.now);
-          sent = sent_read self.old (Some file.now);
+          phase = phase_read self.old (Some (as_file file.now));
+          sent = sent_read self.old (Some (as_file file.now));
         } }
     {
-        if self.rules.payload_length(file) as u64 > MAX_PAYLOAD {
+        if self.rules.payload_length(&file.bytes) as u64 > MAX_PAYLOAD {
             let refusal = Refusal::TooLong.number();
             self.phase = Phase::Refused { number, refusal };
             return None;
@@ -382,19 +383,32 @@ impl<F: Folder> PeerNeighbour<F> {
     }
 
     /// Writes the Data of a file at the front of a buffer.
-    fn write_file(&self, number: u64, file: &[u8], buffer: &mut [u8]) -> Option<usize>
+    fn write_file(&self, number: u64, file: &FolderFile, buffer: &mut [u8]) -> Option<usize>
         requires room { MAX_MESSAGE ≤ length buffer.old }
-        requires short { length (payload_with self.now file.now) ≤ 8192 }
+        requires short { length (payload_with self.now (as_file file.now).bytes) ≤ 8192 }
         ensures bound { IfSome result (λ count. count ≤ length buffer.new) }
         ensures packet { option_map (λ count. take count buffer.new) result
-            ≡ Some (spelling (file_data self.now number file.now)) }
+            ≡ Some (spelling (file_data self.now number (as_file file.now))) }
     {
+        let limit = self.limit_of(file);
         let Some(destination) = self.rules.destination() else {
-            return self.write_data(number, self.limit, file, buffer);
+            return self.write_data(number, limit, &file.bytes, buffer);
         };
         let mut payload = [0; MAX_PAYLOAD as usize];
-        let length = write_after(destination, file, &mut payload);
-        self.write_data(number, self.limit, &payload[..length], buffer)
+        let length = write_after(destination, &file.bytes, &mut payload);
+        self.write_data(number, limit, &payload[..length], buffer)
+    }
+
+    /// The age limit of a file's Data: its own, or that of all files if it has none.
+    fn limit_of(&self, file: &FolderFile) -> u64
+        ensures limit { result ≡ limit_with self.now file.now.limit }
+        ensures fits { result < 2 ^ 40 }
+    {
+        if file.limit == 0 {
+            self.limit
+        } else {
+            file.limit
+        }
     }
 
     /// Writes a Data of this station at the front of a buffer.

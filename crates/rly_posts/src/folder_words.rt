@@ -30,7 +30,7 @@ fn word_of_call(fault: PlaceFault) -> FolderWord {
     match fault.place {
         Place::Folder => FolderWord::System(word),
         Place::Sub(sub) => FolderWord::Inside(part_of(sub), word),
-        Place::File(name) => FolderWord::Inside(part_of(SubFolder::of(name.area)), word),
+        Place::File(file) => { FolderWord::Inside(part_of(SubFolder::of(file.name.area)), word) }
         Place::Hidden => FolderWord::Inside(FolderPart::Hidden, word),
         Place::Trial | Place::TrialLink => FolderWord::Inside(FolderPart::Trial, word),
         Place::Lock => FolderWord::Inside(FolderPart::Lock, word),

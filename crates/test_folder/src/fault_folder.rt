@@ -71,7 +71,7 @@ const FAILURES: [Failure; 9] = [
 /// Writes a file, hands it out under 1, syncs, and renames it to 2. Returns which calls succeed.
 fn four_calls<F: Folder>(folder: &mut F) -> [bool; 4] {
     let (area, from) = (Area::Out, 1);
-    let written = folder.write(&[9]).is_ok();
+    let written = folder.write(&[9], 0).is_ok();
     let linked = folder.link(Name { area, number: from }).is_ok();
     let synced = folder.sync().is_ok();
     let renamed = folder.rename(Name { area, number: from }, Name { area, number: 2 });

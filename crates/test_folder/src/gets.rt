@@ -1,7 +1,7 @@
 //! Files that a reader prints: their order, form and removal, and a failure and a crash at each
 //! call.
 use crate::expect_listed;
-use rly_folder::{After, Area, FaultFolder, Folder, MemFolder, Name};
+use rly_folder::{After, Area, FaultFolder, Folder, FolderFile, MemFolder, Name};
 use rly_folder_clients::{Form, GetFault, get};
 use std::alloc::Global;
 use std::io;
@@ -21,7 +21,7 @@ fn handed_out<R: Abort>(rt: &R, alloc: Global, files: &[&[u8]], numbers: &[u64])
         let bytes = file.to_vec(alloc).expect(rt, "memory");
         let (area, number) = (Area::Out, *number);
         folder
-            .put(Name { area, number }, bytes)
+            .put(Name { area, number }, FolderFile::new(bytes, 0))
             .expect(rt, "memory");
     }
     folder.sync().expect(rt, "no fault");
@@ -67,7 +67,7 @@ fn a_file_that_was_printed_is_removed_alone(rt: HostRuntime) {
     let area = Area::Printed;
     let empty = Vec::new(alloc);
     folder
-        .put(Name { area, number: 3 }, empty)
+        .put(Name { area, number: 3 }, FolderFile::new(empty, 0))
         .expect(&rt, "memory");
     expect_got(&rt, alloc, &mut folder, RAW, 1, Ok(1), b"b", 0);
     expect_listed(&rt, &mut folder, Area::Out, &[], 0);

@@ -1,6 +1,6 @@
 //! A folder that plays the neighbour of a peer: numbers, refusals, removals, a failure and a crash at each call.
 use crate::expect_listed;
-use rly_folder::{After, Area, FaultFolder, Folder, MemFolder, Name};
+use rly_folder::{After, Area, FaultFolder, Folder, FolderFile, MemFolder, Name};
 use rly_link_folder::{Admission, Entry, Inbox, NotOpen};
 use std::alloc::Global;
 use std::process::Abort;
@@ -20,6 +20,7 @@ fn put<R: Abort>(
     file: &[u8],
 ) {
     let file = file.to_vec(alloc).expect(rt, "memory");
+    let file = FolderFile::new(file, 0);
     folder.put(Name { area, number }, file).expect(rt, "memory");
     folder.sync().expect(rt, "no fault");
 }
@@ -54,7 +55,7 @@ fn expect_given<R: Abort, F: Folder>(
     payload: Option<&[u8]>,
 ) {
     match (inbox.give(number, 9).expect(rt, "no fault"), payload) {
-        (Some(found), Some(payload)) => expect!(*rt; found.as_slice() == payload, number),
+        (Some(found), Some(payload)) => expect!(*rt; found.bytes.as_slice() == payload, number),
         (found, payload) => expect!(*rt; found.is_none() && payload.is_none(), number),
     }
 }

@@ -1,6 +1,6 @@
 //! Folders in memory, and what a crash may leave of them.
 use crate::expect_listed;
-use rly_folder::{Area, Folder, MemFolder, Name};
+use rly_folder::{Area, Folder, FolderFile, MemFolder, Name};
 use std::alloc::Global;
 use std::process::Abort;
 
@@ -36,7 +36,7 @@ fn expect_read<R: Abort>(
     file: Option<&[u8]>,
 ) {
     match (folder.read(name, most).expect(rt, "no fault"), file) {
-        (Some(found), Some(file)) => expect!(*rt; found.as_slice() == file),
+        (Some(found), Some(file)) => expect!(*rt; found.bytes.as_slice() == file),
         (found, file) => expect!(*rt; found.is_none() && file.is_none()),
     }
 }
@@ -48,12 +48,14 @@ fn expect_counts<R: Abort>(rt: &R, folder: &MemFolder, counts: [u64; 3]) {
 
 fn put<R: Abort>(rt: &R, alloc: Global, folder: &mut MemFolder, name: Name, file: &[u8]) {
     let file = file.to_vec(alloc).expect(rt, "memory");
-    folder.put(name, file).expect(rt, "memory");
+    folder
+        .put(name, FolderFile::new(file, 0))
+        .expect(rt, "memory");
 }
 
 fn make<R: Abort>(rt: &R, alloc: Global, folder: &mut MemFolder, act: Act, row: u64) {
     match act {
-        Act::Write(bytes) => folder.write(bytes).expect(rt, "no fault"),
+        Act::Write(bytes) => folder.write(bytes, 0).expect(rt, "no fault"),
         Act::Link(to, done) => expect!(*rt; folder.link(to) == Ok(done), row),
         Act::Rename(from, to, done) => expect!(*rt; folder.rename(from, to) == Ok(done), row),
         Act::Remove(name, done) => expect!(*rt; folder.remove(name) == Ok(done), row),

@@ -26,14 +26,14 @@ fn expect_answer<R: Abort, F: Folder>(
     answer: TakeAnswer,
     row: u64,
 ) {
-    let answered = outbox.take(number, payload);
+    let answered = outbox.take(number, 0, payload);
     expect!(*rt; answered == answer, row);
 }
 
 fn expect_file<R: Abort, F: Folder>(rt: &R, folder: &mut F, number: u64, file: &[u8], row: u64) {
     let area = Area::Out;
     match folder.read(Name { area, number }, 9).expect(rt, "no fault") {
-        Some(found) => expect!(*rt; found.as_slice() == file, row),
+        Some(found) => expect!(*rt; found.bytes.as_slice() == file, row),
         None => expect!(*rt; false, row),
     }
 }
@@ -100,6 +100,23 @@ fn opened_at_last<R: Abort, F: Folder + Drop>(rt: &R, folder: F) -> Outbox<F> {
     }
 }
 
+/// The limit of a Data is that of its file.
+#[test]
+fn each_file_has_its_limit(rt: HostRuntime) {
+    let mut outbox = opened(&rt, MemFolder::new(rt.alloc()));
+    expect!(rt; outbox.take(1, 0, PAYLOADS[0]) == TakeAnswer::Taken);
+    expect!(rt; outbox.take(2, 1_099_511_627_775, PAYLOADS[1]) == TakeAnswer::Taken);
+    let mut folder = outbox.into_folder();
+    let area = Area::Out;
+    for (number, limit) in &[(1, 0), (2, 1_099_511_627_775_u64)] {
+        let number = *number;
+        let found = folder
+            .read(Name { area, number }, 9)
+            .expect(&rt, "no fault");
+        expect!(rt; found.is_some_and(|found| found.limit == *limit), number);
+    }
+}
+
 /// Takes a Data, a second time if a call failed.
 fn take_at_last<R: Abort, F: Folder>(
     rt: &R,
@@ -108,7 +125,7 @@ fn take_at_last<R: Abort, F: Folder>(
     payload: &[u8],
     row: u64,
 ) {
-    let answer = outbox.take(number, payload);
+    let answer = outbox.take(number, 0, payload);
     if answer == TakeAnswer::Other {
         expect_answer(rt, outbox, number, payload, TakeAnswer::Taken, row);
     } else {
@@ -139,8 +156,8 @@ fn stopped(folder: FaultFolder<MemFolder>) -> (u64, MemFolder) {
     match Outbox::open(folder, MOST) {
         Err(folder) => (0, folder.into_inner()),
         Ok(mut outbox) => {
-            let first = outbox.take(1, PAYLOADS[0]) == TakeAnswer::Taken;
-            let second = outbox.take(2, PAYLOADS[1]) == TakeAnswer::Taken;
+            let first = outbox.take(1, 0, PAYLOADS[0]) == TakeAnswer::Taken;
+            let second = outbox.take(2, 0, PAYLOADS[1]) == TakeAnswer::Taken;
             (
                 u64::from(first) + u64::from(second),
                 outbox.into_folder().into_inner(),
@@ -152,7 +169,7 @@ fn stopped(folder: FaultFolder<MemFolder>) -> (u64, MemFolder) {
 /// The folder opens to each number that was answered, and goes on after it.
 fn expect_reopened<R: Abort>(rt: &R, taken: u64, folder: MemFolder, row: u64) {
     let mut outbox = opened(rt, folder);
-    let TakeAnswer::Already(greatest) = outbox.take(0, &[]) else {
+    let TakeAnswer::Already(greatest) = outbox.take(0, 0, &[]) else {
         panic!(rt; "Data 0 is answered");
     };
     expect!(*rt; taken <= greatest, row);

@@ -1,7 +1,7 @@
 //! A folder that plays the neighbour station of a peer: the packets that it gives, what it makes of the answers, a failure
 //! and a crash at each call.
 use crate::expect_listed;
-use rly_folder::{After, Area, FaultFolder, Folder, MemFolder, Name};
+use rly_folder::{After, Area, FaultFolder, Folder, FolderFile, MemFolder, Name};
 use rly_hop::{MAX_MESSAGE, StationId};
 use rly_link_folder::{Admission, PeerNeighbour, Phase};
 use std::alloc::Global;
@@ -69,6 +69,7 @@ pub(crate) fn filled<R: Abort>(rt: &R, alloc: Global, files: &[&[u8]]) -> MemFol
     for file in files {
         let file = file.to_vec(alloc).expect(rt, "memory");
         let area = Area::New;
+        let file = FolderFile::new(file, 0);
         folder.put(Name { area, number }, file).expect(rt, "memory");
         number = number.saturating_add(1);
     }
@@ -215,6 +216,7 @@ pub(crate) fn with_sent<R: Abort>(
     for number in numbers {
         let file = vec![in alloc; 0; length].expect(rt, "memory");
         let (area, number) = (Area::Sent, *number);
+        let file = FolderFile::new(file, 0);
         folder.put(Name { area, number }, file).expect(rt, "memory");
     }
     folder.sync().expect(rt, "no fault");

@@ -3,7 +3,7 @@ ghost use Rattle.std.specs.Prelude.{◌<◌, ◌^◌};
 
 use crate::expect_listed;
 use crate::peer_neighbour::{CUSTODY, QUESTION, Row, SILENCE, expect_script, filled, with_sent};
-use rly_folder::{Area, Folder};
+use rly_folder::{Area, Folder, FolderFile, MemFolder, Name};
 use rly_hop::{MAX_MESSAGE, StationId};
 use rly_link_folder::{Admission, PeerNeighbour, Phase};
 use std::alloc::Global;
@@ -74,6 +74,24 @@ fn a_destination_is_put_before_each_file(rt: HostRuntime) {
 fn the_limit_is_in_each_data(rt: HostRuntime) {
     let folder = filled(&rt, rt.alloc(), &[b"\x00\x0cA"]);
     let mut far = neighbour(&rt, rt.alloc(), None, 60_000_000, folder);
+    let script: &[Row] = &[
+        (SILENCE, &[QUESTION]),
+        (CUSTODY[0], &[WITH_A_MINUTE]),
+        (SILENCE, &[WITH_A_MINUTE]),
+    ];
+    expect_script(&rt, &mut far, script);
+}
+
+/// A file's own limit comes before that of all files, also after its Data is given again.
+#[test]
+fn a_file_has_a_limit_of_its_own(rt: HostRuntime) {
+    let mut folder = MemFolder::new(rt.alloc());
+    let bytes = b"\x00\x0cA".to_vec(rt.alloc()).expect(&rt, "memory");
+    let (area, number) = (Area::New, 1);
+    folder
+        .put(Name { area, number }, FolderFile::new(bytes, 60_000_000))
+        .expect(&rt, "memory");
+    let mut far = neighbour(&rt, rt.alloc(), None, 5, folder);
     let script: &[Row] = &[
         (SILENCE, &[QUESTION]),
         (CUSTODY[0], &[WITH_A_MINUTE]),

@@ -43,12 +43,12 @@ fn a_second_opening_disturbs_nothing(rt: HostRuntime) {
     make(&rt, path);
     let mut one = FileFolder::open(&rt, path, "peer").expect(&rt, "it opens");
     expect!(rt; one.lock().is_ok());
-    expect!(rt; one.write(b"first").is_ok());
+    expect!(rt; one.write(b"first", 0).is_ok());
     let mut other = FileFolder::open(&rt, path, "peer").expect(&rt, "it opens");
     expect!(rt; matches!(other.lock(), Err(OpenFault::Locked)));
     expect!(rt; one.link(NEW) == Ok(true));
     let found = one.read(NEW, 9).expect(&rt, "no fault");
-    expect!(rt; found.is_some_and(|bytes| bytes.as_slice() == b"first".as_slice()));
+    expect!(rt; found.is_some_and(|bytes| bytes.bytes.as_slice() == b"first".as_slice()));
     // The other side of the folder has a lock of its own.
     let mut side = FileFolder::open(&rt, path, "hop").expect(&rt, "it opens");
     expect!(rt; side.lock().is_ok());

@@ -3,7 +3,7 @@ use Rattle.std.proofs.lemmas.Bool.Decides.{Decides-eqb}
 use Rattle.std.proofs.lemmas.Slice.Eq.{strip_prefix_is, strip_suffix_is}
 use Rattle.rly_folder_file.specs.FileNames.{prefix_of, suffix_of}
 use Rattle.rly_folder_file.proofs.FileNames.{split}
-use Rattle.rly_folder_file.proofs.place.digits_in.Goals as goal
+use Rattle.rly_folder_file.proofs.place.middle_in.Goals as goal
 
 pub returns-clause-some : goal.returns-clause-some
 returns-clause-some c =
