@@ -3,9 +3,10 @@ import os
 import random
 import select
 import socket
+import subprocess
 import time
 
-from program import SECONDS, Rows
+from program import RLY, SECONDS, Rows
 
 # Station 7, with a folder that plays station 3 upstream, and one that plays station 9 as the next hop.
 PLAN = """station = 7
@@ -187,6 +188,36 @@ class Served(Folders):
         self.start("serve", "device", "plan")
         self.expect_files("out/out", payloads)
 
+    def test_folders_that_are_emptied_lose_nothing_else(self):
+        """All files are removed by hand while the station serves. What is put then comes out under the next numbers."""
+        self.serve()
+        self.put(1, b"\0\x0cfirst")
+        self.wake()
+        self.expect_files("out/out", [b"\0\x0cfirst"], LATEST)
+        for folder in ("in/new", "in/sent", "in/refused", "out/out"):
+            for name in self.names(folder):
+                os.remove(self.path(f"{folder}/{name}"))
+        for number in (2, 3):
+            self.put(number, b"\0\x0c%d" % number)
+        self.wake()
+        self.wait_for(lambda: self.names("out/out") == [f"{number:020}" for number in (2, 3)], LATEST)
+
+    def test_a_full_file_system_delays_what_is_handed_out(self):
+        """A hop's folder that has no room says so, and gets each datagram once, in order, once there is some."""
+        if subprocess.run(["mount", "-t", "tmpfs", "-o", "size=64k", "tmpfs", self.path("out")], capture_output=True).returncode:
+            self.skipTest("needs a mount")
+        self.addCleanup(subprocess.run, ["umount", "--lazy", self.path("out")])
+        run = self.serve()
+        room = os.open(self.path("out/out/.room"), os.O_CREAT | os.O_WRONLY)
+        os.write(room, bytes(65_536))
+        os.close(room)
+        for number in (1, 2):
+            self.put(number, b"\0\x0c%d" % number)
+        self.wake()
+        self.assertEqual(self.told(run), b"rly: hop 1: folder call failed (1 so far): No space left on device (os error 28)\n")
+        os.remove(self.path("out/out/.room"))
+        self.expect_files("out/out", [b"\0\x0c1", b"\0\x0c2"])
+
 
 class Watched(Folders):
     """Folders that other programs change by plain file calls, without a packet to the address in `.wake`."""
@@ -307,6 +338,19 @@ class Refused(Folders):
         os.mkdir(self.path("in"))
         os.rmdir(self.path("out"))
         self.expect_end("hop 1: folder out: No such file or directory (os error 2)")
+
+    def test_a_folder_has_to_be_writable(self):
+        """The station runs as another user, who may read the folder, and may do all with the device and the other one."""
+        if os.getuid() != 0:
+            self.skipTest("needs root to become another user")
+        os.chmod(self.folder, 0o755)
+        os.chmod(self.path("plan"), 0o644)
+        for name in ("device", "out"):
+            os.chown(self.path(name), 65534, 65534)
+        done = subprocess.run(
+            [RLY, "serve", "device", "plan", "--turns=1"], capture_output=True, timeout=SECONDS, cwd=self.folder, user=65534, group=65534
+        )
+        self.assertEqual((done.returncode, done.stderr), (1, b"rly: folder failed\nrly: peer 1: folder in: sent: Permission denied (os error 13)\n"))
 
     def test_a_path_begins_at_the_plan(self):
         os.mkdir(self.path("etc"))
