@@ -5,12 +5,13 @@
 --
 -- It shows each packet of the UDP ports that the preference `rly.ports` names. Of all other ports it shows those packets that begin
 -- with the mark and the version, unless another dissector has the port. A packet that is no message gets an error, which says the
--- first fault by the page's table. examples/check_dissector tries this script.
+-- first fault by the page's table. Packets of the ports in `rly.keys`, such as 7010,7020-7021, end with the tag of a link's key: its
+-- 16 bytes are shown apart from the message, and what the message says isn't judged by them. examples/check_dissector tries this script.
 
 local rly = Proto("rly", "Hop protocol of rly")
 
 local MARK, VERSION = 0x524c, 1
-local HEAD, LONGEST_PAYLOAD = 8, 8192
+local HEAD, LONGEST_PAYLOAD, TAG = 8, 8192, 16
 local DATA, CUSTODY, REFUSED, LIMITED, HEARD = 1, 2, 3, 4, 5
 local KINDS = {
     [DATA] = "Data",
@@ -74,6 +75,7 @@ local fields = {
     bits = ProtoField.uint64("rly.bits", "Bits of the 64 numbers after it", base.HEX),
     heard = ProtoField.string("rly.heard", "Numbers whose bits are set"),
     rest = ProtoField.bytes("rly.rest", "Not read"),
+    tag = ProtoField.bytes("rly.tag", "Tag of the link's key"),
     fault = ProtoField.uint8("rly.fault", "Fault", base.DEC, fault_texts),
     fault_number = ProtoField.uint8("rly.fault.number", "Number of the fault"),
 }
@@ -85,7 +87,7 @@ rly.experts = { no_message, is_cut }
 
 -- Reads and shows the head. Answers its first fault and how many bytes were read, and puts what it says into `message`.
 local function read_head(packet, tree, message)
-    if packet:reported_len() < HEAD then
+    if message.size < HEAD then
         return 1, 0
     end
     if packet:len() < HEAD then
@@ -143,7 +145,7 @@ end
 
 -- Reads and shows what follows the head, as `read_head` does.
 local function read_body(packet, tree, message)
-    local size, fixed = packet:reported_len(), LENGTHS[message.kind]
+    local size, fixed = message.size, LENGTHS[message.kind]
     if size < fixed then
         return 6, HEAD
     end
@@ -229,9 +231,9 @@ local function show_fault(packet, tree, fault, at)
     return line
 end
 
--- Shows what a packet is, and answers it in a line.
-local function show(packet, tree, is_quoted)
-    local message = {}
+-- Shows what a packet is that has so many bytes without a tag, and answers it in a line.
+local function show(packet, tree, size, is_quoted)
+    local message = { size = size }
     local fault, at = read_head(packet, tree, message)
     if not fault then
         fault, at = read_body(packet, tree, message)
@@ -239,8 +241,8 @@ local function show(packet, tree, is_quoted)
     if is_quoted and TOO_FEW[fault] then
         fault = CUT
         tree:add_proto_expert_info(is_cut, "An error of ICMP may quote only a prefix")
-    elseif packet:len() < packet:reported_len() then
-        tree:add_proto_expert_info(is_cut, "The capture has " .. packet:len() .. " of " .. packet:reported_len() .. " bytes")
+    elseif packet:len() < size then
+        tree:add_proto_expert_info(is_cut, "The capture has " .. packet:len() .. " of " .. size .. " bytes")
     end
     if fault == CUT then
         show_rest(packet, tree, at)
@@ -249,9 +251,36 @@ local function show(packet, tree, is_quoted)
     return fault and show_fault(packet, tree, fault, at) or line_of(message)
 end
 
+-- The ports of links with a key, as pairs of the first and the last.
+local keyed = {}
+
+local function has_key(port)
+    for _, range in ipairs(keyed) do
+        if range[1] <= port and port <= range[2] then
+            return true
+        end
+    end
+    return false
+end
+
+-- Takes the tag off a packet of a link with a key. Answers the rest, and how many bytes that has.
+local function without_tag(packet, tree, pinfo)
+    local size = packet:reported_len()
+    if size < TAG or not (has_key(pinfo.src_port) or has_key(pinfo.dst_port)) then
+        return packet, size
+    end
+    local rest = math.min(packet:len(), size - TAG)
+    if rest < packet:len() then
+        tree:add(fields.tag, packet(rest))
+    end
+    -- A packet that is a tag alone has no message in front of it.
+    return rest > 0 and packet(0, rest):tvb() or ByteArray.new():tvb("no message"), size - TAG
+end
+
 function rly.dissector(packet, pinfo, root)
     local tree = root:add(rly, packet())
-    local line = show(packet, tree, pinfo.in_error_pkt)
+    local message, size = without_tag(packet, tree, pinfo)
+    local line = show(message, tree, size, pinfo.in_error_pkt)
     pinfo.cols.protocol = "rly"
     pinfo.cols.info = line
     tree:append_text(", " .. line)
@@ -270,9 +299,15 @@ local udp = DissectorTable.get("udp.port")
 udp:add_for_decode_as(rly)
 rly.prefs.ports = Pref.range("UDP ports", "", "The ports of links, such as 7010-7041: each packet of theirs is shown", 65535)
 
+rly.prefs.keys = Pref.range("UDP ports of links with a key", "", "Packets of these ports end with a tag of 16 bytes", 65535)
+
 -- The ports that this dissector has.
 local ports = ""
 function rly.prefs_changed()
+    keyed = {}
+    for first, last in rly.prefs.keys:gmatch("(%d+)%-?(%d*)") do
+        table.insert(keyed, { tonumber(first), tonumber(last ~= "" and last or first) })
+    end
     if ports ~= "" then
         udp:remove(ports, rly)
     end

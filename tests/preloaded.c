@@ -1,4 +1,4 @@
-/* Put in front of the C library by LD_PRELOAD: a wall clock that is set and slewed, and calls that are slow.
+/* Put in front of the C library by LD_PRELOAD: a wall clock that is set and slewed, calls that are slow, and one that fails.
  *
  * CLOCK_FILE has three numbers of 8 bytes. The wall clock shows `ahead` nanoseconds more than the system's, and from the moment
  * `begin` of the monotonic clock on `slew` billionths more of the time since then.
@@ -7,6 +7,8 @@
  * between a look and the sleep after it falls there often.
  *
  * With NO_LINKS each hard link is refused, as by a file system that has none.
+ *
+ * With FAIL_CALL the write or sync of a file at a place that has this number, counted from 1, fails, and no other.
  */
 #define _GNU_SOURCE
 #include <dlfcn.h>
@@ -91,3 +93,19 @@ int linkat(int from_folder, const char *from, int to_folder, const char *to, int
 int link(const char *from, const char *to) {
     return linkat(AT_FDCWD, from, AT_FDCWD, to, 0);
 }
+
+static int fails(void) {
+    static long calls;
+    const char *number = getenv("FAIL_CALL");
+    if (!number || __atomic_add_fetch(&calls, 1, __ATOMIC_SEQ_CST) != atol(number)) return 0;
+    errno = EIO;
+    return 1;
+}
+
+ssize_t pwrite(int fd, const void *bytes, size_t count, off_t place) {
+    return fails() ? -1 : REAL(ssize_t, pwrite, int, const void *, size_t, off_t)(fd, bytes, count, place);
+}
+
+int fdatasync(int fd) { return fails() ? -1 : REAL(int, fdatasync, int)(fd); }
+
+int fsync(int fd) { return fails() ? -1 : REAL(int, fsync, int)(fd); }

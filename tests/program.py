@@ -1,5 +1,6 @@
 """What each test of the program starts from: a run of the built `rly` in a folder of its own, and what it has to put out."""
 import os
+import re
 import select
 import subprocess
 import tempfile
@@ -9,15 +10,23 @@ TOP = os.path.dirname(os.path.dirname(os.path.abspath(__file__)))
 RLY = f"{TOP}/crates/rly/out/rly"
 # A run that takes longer than this has failed.
 SECONDS = 60
-# What is told of options whose values are out of their limits, and of a device's file that isn't there.
-BAD_OPTIONS = "refused 21 badgeometry\nrly: options: value out of limits\n"
-NO_DEVICE = "refused 23 device\nrly: device: No such file or directory (os error 2)\n"
+# What is told of a device's file that isn't there.
+NO_FILE = "No such file or directory (os error 2); `rly format` makes it"
+NO_DEVICE = f"refused 23 device\nrly: device: device: {NO_FILE}\n"
+# A line on standard error on a line of the input that is no command.
+NOTE = re.compile(rb"rly: line \d+: [^\n]+\n")
 # The worked key of docs/PROTOCOL.md.
 KEY = "000102030405060708090a0b0c0d0e0f101112131415161718191a1b1c1d1e1f\n"
 
 
 def as_bytes(text):
     return text.encode() if isinstance(text, str) else text
+
+
+def bad_option(option, least, most):
+    """What is told of an option `--NAME=VALUE` that is out of its limits."""
+    name, value = option.split("=")
+    return f"refused 21 badgeometry\nrly: options: {name} {value}: {least} to {most}\n"
 
 
 def plan_of(peers, hops, listen, remote):
@@ -73,9 +82,13 @@ class Rows(unittest.TestCase):
         return subprocess.run([RLY, *words], input=as_bytes(input), capture_output=True, timeout=SECONDS, cwd=self.folder)
 
     def expect(self, *words, input=b"", output=b"", errors=b"", status=0):
-        """Runs `rly` on these words, and compares all that it puts out."""
+        """Runs `rly` on these words, and compares all that it puts out. Of each line that is no command standard error has a line."""
         run = self.rly(*words, input=input)
-        found = {"status": run.returncode, "output": run.stdout, "errors": run.stderr}
+        refused = run.stdout.count(b"refused 16 line\n")
+        # More of them may fill the pipe, and what that has no room for is left out.
+        if words[0] in ("sim", "play") and refused < 500:
+            self.assertEqual(len(NOTE.findall(run.stderr)), refused, f"rly {' '.join(words)}")
+        found = {"status": run.returncode, "output": run.stdout, "errors": NOTE.sub(b"", run.stderr)}
         wanted = {"status": status, "output": as_bytes(output), "errors": as_bytes(errors)}
         self.assertEqual(found, wanted, f"rly {' '.join(words)}")
 

@@ -144,13 +144,14 @@ balance ok
 class Faults(Audits):
     def test_a_file_of_63_bytes_is_no_device(self):
         self.write("device", bytes(63))
-        self.expect_audit(errors="refused 20 notadevice\n", status=1)
+        self.expect_audit(errors=f"refused 20 notadevice\nrly: device: {self.path('device')}: not a device; `rly format` makes one\n", status=1)
 
     def test_devices_that_do_not_open(self):
+        device = self.path("device")
         for place, errors in [
-            (0, "refused 20 notadevice\n"),
-            (12, "refused 21 badgeometry\nrly: device: header value out of limits, or file too short\n"),
-            (64, "refused 22 damaged 64\n"),
+            (0, f"refused 20 notadevice\nrly: device: {device}: not a device; `rly format` makes one\n"),
+            (12, f"refused 21 badgeometry\nrly: device: {device}: header value out of limits, or file too short\n"),
+            (64, f"refused 22 damaged 64\nrly: device: {device}: damaged at byte 64\n"),
         ]:
             with self.subTest(place=place):
                 self.make(SMALL, SMALL_SIZE)

@@ -2,7 +2,7 @@
 import fcntl
 import os
 
-from program import BAD_OPTIONS, NO_DEVICE, SECONDS, Rows
+from program import NO_DEVICE, SECONDS, Rows, bad_option
 
 # The header of the small device.
 SMALL_HEADER = bytes.fromhex(
@@ -65,18 +65,18 @@ seq 64
 balance ok
 """
 
-# Options of geometries that are out of their limits.
+# Options of geometries that are out of their limits, and these.
 BAD_GEOMETRIES = [
-    "--hops=65537",
-    "--items=0",
-    "--payload=0",
-    "--payload=8193",
-    "--segments=257",
-    "--segments=1",
-    "--segments=18446744073709551615",
-    "--length=455789",
-    "--length=2147483648",
-    "--length=18446744073709551615",
+    ("--hops=65537", 1, 64),
+    ("--items=0", 1, 16_384),
+    ("--payload=0", 1, 8_192),
+    ("--payload=8193", 1, 8_192),
+    ("--segments=257", 2, 256),
+    ("--segments=1", 2, 256),
+    ("--segments=18446744073709551615", 2, 256),
+    ("--length=455789", 455_790, 2**31 - 1),
+    ("--length=2147483648", 455_790, 2**31 - 1),
+    ("--length=18446744073709551615", 455_790, 2**31 - 1),
 ]
 
 # Numbers of segments, and what `format` prints for a small device of so many.
@@ -87,17 +87,17 @@ SEGMENTS = [
 ]
 
 # Places of the small device, and what is told where the byte there is 0.
-DAMAGES = [(64, "refused 22 damaged 64\n"), (0, "refused 20 notadevice\n"), (10, "refused 20 notadevice\n")]
+NOT_A_DEVICE = "refused 20 notadevice\nrly: device: device: not a device; `rly format` makes one\n"
+DAMAGES = [(64, "refused 22 damaged 64\nrly: device: device: damaged at byte 64\n"), (0, NOT_A_DEVICE), (10, NOT_A_DEVICE)]
 
 # What is told of a file that is no device, of a device that is a byte too short, and of one that another program has.
-NOT_A_DEVICE = "refused 20 notadevice\n"
-SHORT = "refused 21 badgeometry\nrly: device: header value out of limits, or file too short\n"
-HELD = "refused 23 device\nrly: lock: locked by another process\n"
+SHORT = "refused 21 badgeometry\nrly: device: device: header value out of limits, or file too short\n"
+HELD = "refused 23 device\nrly: lock: device: locked by another process\n"
 
 
-def living(count):
+def living(count, name="device"):
     """What is told where a device that holds so many live datagrams would be formatted."""
-    return f"refused 23 device\nrly: device: live datagrams: {count}; --force formats it, and they are lost\n"
+    return f"refused 23 device\nrly: device: {name}: live datagrams: {count}; --force formats it, and they are lost\n"
 
 
 def takes(count, length):
@@ -137,10 +137,28 @@ class Formatting(Devices):
         self.expect_bytes(64, SMALL_HEAD)
 
     def test_geometries_out_of_limits_touch_no_file(self):
-        for option in BAD_GEOMETRIES:
+        for option, least, most in BAD_GEOMETRIES:
             with self.subTest(option):
-                self.expect_refused("format", "device", option, errors=BAD_OPTIONS)
+                self.expect_refused("format", "device", option, errors=bad_option(option, least, most))
                 self.assertFalse(os.path.lexists(self.path("device")))
+
+    def test_a_device_takes_its_room_at_once(self):
+        """With `--allocate` its blocks are there, or standard error says how many are; the device is the same, and so is what is refused."""
+        sizes = ["--hops=1", "--peers=1", "--items=16", "--bytes=4096"]
+        self.make_small("device")
+        run = self.rly("format", "room", *sizes, "--allocate")
+        self.assertEqual((run.returncode, run.stdout), (0, b"formatted 320772\n"), run.stderr)
+        self.assertEqual(self.read("room"), self.read("device"))
+        if os.stat(self.path("room")).st_blocks * 512 >= 320_772:
+            self.assertEqual(run.stderr, b"")
+        else:
+            self.assertRegex(run.stderr, rb"\Arly: room: room: \d+ of 320772 bytes are taken, ")
+        self.expect("play", "room", input="take 1 1 1 0 41\n", output="taken 1 1\n")
+        taken = self.read("room")
+        self.assertEqual(self.rly("format", "room", *sizes, "--allocate").returncode, 1)
+        self.assertEqual(self.read("room"), taken)
+        self.expect("format", "room", *sizes, "--allocate", "--force", output="formatted 320772\n", errors=run.stderr)
+        self.assertEqual(self.read("room"), self.read("device"))
 
     def test_format_never_shortens_a_file(self):
         self.write("device", b"\7" * 400_000)
@@ -273,4 +291,4 @@ class Extremes(Devices):
         taken = "".join(f"taken 1 {number}\n" for number in range(1, 65))
         self.expect("play", device, "--batch=64", input=takes(64, 1), output=taken)
         self.expect_books(MANY_BOOKS, device)
-        self.expect_refused("format", device, *words, errors=living(64))
+        self.expect_refused("format", device, *words, errors=living(64, device))

@@ -25,7 +25,10 @@ hop = 1
 """
 
 # What is told at the start on a new small device.
-SERVED = b"rly: serving station 7, 1 peers, 1 hops, device 320772 bytes, 0 of 16 live\n"
+SERVING = b"rly: serving station 7, 1 peers, 1 hops, device 320772 bytes, 0 of 16 live\n"
+
+# The same of a hop with a contact.
+SERVED = SERVING + b"rly: hop 1: CoDel drops what waited more than 5 ms over 100 ms of open contact\n"
 
 # The longest time in which a station looks at a folder again, and some for a busy machine.
 LATEST = 4.0
@@ -44,10 +47,10 @@ class Folders(Rows):
         self.write("plan", PLAN)
         self.make_small("device")
 
-    def serve(self, *words):
+    def serve(self, *words, told=SERVED):
         """A relay that has told what it serves."""
         run = self.start("serve", "device", "plan", *words)
-        self.assertEqual(run.stderr.readline(), SERVED)
+        self.assertEqual(b"".join(run.stderr.readline() for _ in told.splitlines()), told)
         return run
 
     def put(self, number, payload, folder="in"):
@@ -163,6 +166,26 @@ class Served(Folders):
         wanted = [f"{1:020}.{reason}" for reason in ("no-route", "too-long", "too-short")]
         self.assertEqual(self.names("in/refused"), wanted)
 
+    def test_the_rest_takes_what_has_no_route(self):
+        """With a route of `"rest"` files without a route and those too short for a destination come out, as from a dead-letter box.
+        What is too long goes aside."""
+        self.write("plan", PLAN.replace("destination = 12", 'destination = "rest"'))
+        self.serve()
+        for number, payload in enumerate([b"\0\x0d-", b"\0", b"\0\x0c" + bytes(5_000), b"", b"\0\x0cgood"], 1):
+            self.put(number, payload)
+        self.expect_files("out/out", [b"\0\x0d-", b"\0", b"", b"\0\x0cgood"], LATEST)
+        self.assertEqual(self.names("in/refused"), [f"{1:020}.too-long"])
+
+    def test_the_rest_never_leads_back(self):
+        """Where the rest's hop is of the peer's own station its files without a route go aside, and those with one go on."""
+        rest = '[[route]]\ndestination = "rest"\nhop = 1\n'
+        self.write("plan", PLAN.replace("station = 9", "station = 3") + rest)
+        self.serve()
+        for number, payload in enumerate([b"\0\x0d-", b"\0", b"\0\x0cgood"], 1):
+            self.put(number, payload)
+        self.expect_files("out/out", [b"\0\x0cgood"], LATEST)
+        self.assertEqual(self.names("in/refused"), [f"{1:020}.{reason}" for reason in ("no-route", "too-short")])
+
     def test_hidden_files_of_killed_programs_go(self):
         """A start removes what a killed put left more than a day ago, and nothing else."""
         for name, age in ((".put-1-1", 90_000), (".put-2-2", 80_000), (".other", 90_000)):
@@ -237,6 +260,8 @@ class Watched(Folders):
         self.write("plan", plan)
         run = self.start("serve", "device", "plan")
         self.assertIn(b"rly: serving station 7", run.stderr.readline())
+        while b"CoDel" not in self.told(run):
+            pass
         # (the first look, a second after the start, wakes all)
         time.sleep(2.5)
         return run
@@ -269,21 +294,21 @@ class Watched(Folders):
         self.wait_for(lambda: len(self.names("out/out")) == 30, LATEST)
 
     def test_room_that_nobody_tells_of_is_seen(self):
-        """A hop whose folder was full for a second goes on soon after a reader removed files, and told nobody."""
+        """A hop whose folder was full for six seconds goes on within two of the room, which a reader made and told nobody of."""
         self.write("plan", PLAN.replace('"out"\n', '"out"\nmost = 2\n'))
         self.rly("format", "device", "--force", "--hops=1", "--peers=1", "--items=64", "--bytes=65536")
         run = self.start("serve", "device", "plan")
         self.assertIn(b"rly: serving station 7", run.stderr.readline())
-        for number in range(1, 4):
+        for number in range(1, 6):
             self.put(number, b"\0\x0c%d" % number)
         self.wake()
         self.expect_files("out/out", [b"\0\x0c1", b"\0\x0c2"], LATEST)
-        # (a hop that was told that its folder is full gives the datagram again after ever longer waits: here 1.3 s at most)
-        time.sleep(1.0)
+        # The hop gives the third again after ever longer waits, and the fourth and fifth are answered by a Custody meanwhile.
+        time.sleep(6.0)
         self.assertEqual(len(self.names("out/out")), 2)
         for name in self.names("out/out"):
             os.remove(self.path(f"out/out/{name}"))
-        self.wait_for(lambda: self.names("out/out") == [f"{3:020}"], WATCHED)
+        self.wait_for(lambda: self.names("out/out") == [f"{3:020}", f"{4:020}"], 2.0)
 
     def test_a_folder_that_is_away_is_tried_again(self):
         """The sub-folder of the second peer goes, and comes back with a file and the time that it had."""

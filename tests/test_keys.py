@@ -1,5 +1,5 @@
 """`rly key`, and the files of links' keys."""
-from program import KEY, NO_DEVICE, Rows, plan_of
+from program import KEY, Rows, plan_of
 
 # Another key.
 OTHER = "f0e1d2c3b4a5968778695a4b3c2d1e0ff0e1d2c3b4a5968778695a4b3c2d1e0f\n"
@@ -9,16 +9,19 @@ OWNERS = [0o400, 0o600, 0o700]
 SHARED = [(0o640, "40"), (0o604, "4"), (0o620, "20"), (0o601, "1"), (0o644, "44")]
 
 # What is told of a file that isn't of a key's form.
-FORM = "not one or two lines of 64 hex digits"
+FORM = "not one or two lines of 64 hex digits; `rly key` makes one"
 
 # Files that hold no key for a link: their text, their permissions, and what is told of them.
 FAULTS = [
     ("", 0o600, FORM),
     ("00\n", 0o600, FORM),
     (KEY + OTHER + "\n", 0o600, FORM),
-    (KEY, 0o640, "permissions 40 for group or others; must be 0"),
-    (KEY, 0o604, "permissions 4 for group or others; must be 0"),
+    (KEY, 0o640, "permissions 40 for group or others; must be 0: chmod 600 {key}"),
+    (KEY, 0o604, "permissions 4 for group or others; must be 0: chmod 600 {key}"),
 ]
+
+# What is told of a device that isn't there.
+NOWHERE = "refused 23 device\nrly: device: /nowhere/device: No such file or directory (os error 2); `rly format` makes it\n"
 
 # What is told of a file that isn't there.
 NO_FILE = "No such file or directory (os error 2)"
@@ -34,12 +37,12 @@ class Keys(Rows):
         self.expect("serve", "/nowhere/device", plan, "--turns=1", errors=errors, status=1)
 
     def expect_fault(self, plan, key, told):
-        self.expect_served(plan, f"rly: key failed\nrly: hop 1: key {key}: {told}\n")
+        self.expect_served(plan, f"rly: key failed\nrly: hop 1: key {key}: {told.format(key=key)}\n")
 
     def expect_right(self, name, mode):
         """Checks that a relay gets as far as its device with a key of these permissions, whose file its plan calls so."""
         self.write("hop.key", KEY, mode)
-        self.expect_served(self.write_plan(name), NO_DEVICE)
+        self.expect_served(self.write_plan(name), NOWHERE)
 
     def test_the_program_writes_new_keys(self):
         """They are keys that a link may have, and each time another one. No input is needed."""
@@ -49,7 +52,7 @@ class Keys(Rows):
         self.assertRegex(first.stdout, rb"\A[0-9a-f]{64}\n\Z")
         self.assertNotEqual(first.stdout, second.stdout)
         self.write("hop.key", first.stdout)
-        self.expect_served(self.write_plan("hop.key"), NO_DEVICE)
+        self.expect_served(self.write_plan("hop.key"), NOWHERE)
 
     def test_a_relay_needs_its_keys(self):
         """It isn't started where a key's file isn't there, isn't of a key's form, or isn't its owner's alone. What is told names
@@ -80,6 +83,6 @@ class Keys(Rows):
             for mode, others in SHARED:
                 with self.subTest(text, mode=oct(mode)):
                     self.write("hop.key", text, mode)
-                    self.expect_fault(plan, key, f"permissions {others} for group or others; must be 0")
+                    self.expect_fault(plan, key, f"permissions {others} for group or others; must be 0: chmod 600 {key}")
         self.write("hop.key", "key", 0o600)
         self.expect_fault(plan, key, FORM)

@@ -1,8 +1,16 @@
 """Options of `sim` that reach the machine, and when a line is answered."""
-from program import BAD_OPTIONS, SECONDS, Rows
+from program import SECONDS, Rows, bad_option
 
-# Options whose values are out of their limits.
-OUT_OF_LIMITS = ["--hops=65537", "--hops=0", "--items=16385", "--target=100001", "--window=65", "--payload=0", "--payload=8193"]
+# Options whose values are out of their limits, and these.
+OUT_OF_LIMITS = [
+    ("--hops=65537", 1, 64),
+    ("--hops=0", 1, 64),
+    ("--items=16385", 1, 16_384),
+    ("--target=100001", 1, 100_000),
+    ("--window=65", 1, 64),
+    ("--payload=0", 1, 8_192),
+    ("--payload=8193", 1, 8_192),
+]
 
 
 class Options(Rows):
@@ -22,9 +30,9 @@ class Options(Rows):
         self.expect("sim", "--hops=64", "--peers=64", input=lines, output="taken 64 1\nrefused 2 nohop\n")
 
     def test_options_out_of_limits_are_refused(self):
-        for option in OUT_OF_LIMITS:
+        for option, least, most in OUT_OF_LIMITS:
             with self.subTest(option):
-                self.expect("sim", option, input="done 1 0\n", errors=BAD_OPTIONS, status=1)
+                self.expect("sim", option, input="done 1 0\n", errors=bad_option(option, least, most), status=1)
 
 
 class Typist(Rows):

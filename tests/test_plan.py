@@ -1,4 +1,6 @@
 """`rly plan`: a plan in a file as text."""
+import os
+
 from program import KEY, Rows
 
 # A hop that is open from 100 to 200 and from 300 to 350, and one that is never open.
@@ -28,19 +30,22 @@ OPEN = f"at 1970-01-01T00:00:00.00015Z 150\n{TOLD.format('open until 1970-01-01T
 CLOSED = f"at 1970-01-01T00:00:00.00025Z 250\n{TOLD.format('closed until 1970-01-01T00:00:00.0003Z 300')}"
 PASSED = TOLD.format("closed").encode()
 
+# What standard error says of it: its contacts lie in 1970.
+WARNED = "rly: plan: hop[1].contacts: all end before the year 2000; write microseconds since 1970, not seconds\n"
+
 # Plans that are refused, and what is told.
 REFUSED = [
-    ("station = 7\n", "refused 50 plan\nrly: plan: at peer\n"),
-    ("color = 7\n", "refused 54 plan\nrly: plan: at the top\n"),
-    ("station = \n", "refused 50 plan\nrly: plan: at line 1, column 11\n"),
-    ("", "refused 50 plan\nrly: plan: at station\n"),
+    ("station = 7\n", "refused 50 plan\nrly: plan: at peer: missing; write 1 to 64 tables [[peer]]\n"),
+    ("color = 7\n", "refused 54 plan\nrly: plan: at the top: unknown key color; write station, peer, hop, route\n"),
+    ("station = \n", "refused 50 plan\nrly: plan: at line 1, column 11: not TOML from here on\n"),
+    ("", "refused 50 plan\nrly: plan: at station: missing; write 1 to 65535\n"),
 ]
-NO_PLAN = "rly: plan failed\nrly: plan: No such file or directory (os error 2)\n"
+NO_PLAN = "rly: plan failed\nrly: plan: nowhere.toml: No such file or directory (os error 2)\n"
 
 # Files that hold no key: their text, their permissions, and what is told of them.
 NO_KEYS = [
-    ("00\n", 0o600, "not one or two lines of 64 hex digits"),
-    (KEY, 0o640, "permissions 40 for group or others; must be 0"),
+    ("00\n", 0o600, "not one or two lines of 64 hex digits; `rly key` makes one"),
+    (KEY, 0o640, "permissions 40 for group or others; must be 0: chmod 600 {key}"),
 ]
 
 # A plan of 64 peers and 64 hops, each of whose links has a key.
@@ -53,10 +58,10 @@ GREATEST = f"station = 7\n{PEERS}{HOPS}"
 class Plans(Rows):
     def expect_told(self, plan):
         """Checks what is told of a plan at moments, and now, which is after its contacts."""
-        self.expect("plan", plan, "--at", "150", output=OPEN)
-        self.expect("plan", plan, "--at", "250", output=CLOSED)
+        self.expect("plan", plan, "--at", "150", output=OPEN, errors=WARNED)
+        self.expect("plan", plan, "--at", "250", output=CLOSED, errors=WARNED)
         now = self.rly("plan", plan)
-        self.assertEqual((now.returncode, now.stderr), (0, b""))
+        self.assertEqual((now.returncode, now.stderr.decode()), (0, WARNED))
         first, rest = now.stdout.split(b"\n", 1)
         self.assertTrue(first.startswith(b"at 20"), first)
         self.assertEqual(rest, PASSED)
@@ -69,7 +74,7 @@ class Plans(Rows):
 
     def expect_no_key(self, plan, told):
         """Checks that nothing is put out of a plan whose hop 2 has no key in its file, and what is told."""
-        errors = f"rly: key failed\nrly: hop 2: key {self.path('ten.key')}: {told}\n"
+        errors = f"rly: key failed\nrly: hop 2: key {self.path('ten.key')}: {told.format(key=self.path('ten.key'))}\n"
         self.expect("plan", plan, "--at=150", errors=errors, status=1)
 
     def test_a_plan_needs_its_keys(self):
@@ -89,12 +94,22 @@ class Plans(Rows):
                 self.expect("plan", "plan.toml", errors=errors, status=1)
         self.expect("plan", "nowhere.toml", errors=NO_PLAN, status=1)
 
+    def test_a_pipe_is_no_plan_and_no_key(self):
+        """A plan or a key that is a pipe is refused. Its opening would wait for a writer."""
+        os.mkfifo(self.path("pipe"), 0o600)
+        self.expect("plan", "pipe", errors="rly: plan failed\nrly: plan: pipe: not a regular file\n", status=1)
+        plan = self.write("plan.toml", PLAN)
+        os.mkfifo(self.path("ten.key"), 0o600)
+        self.expect_no_key(plan, "not a regular file")
+
     def test_the_greatest_plan_is_told(self):
         """Each of 128 links of a plan may have a key, and all are told: the moment, the station, 64 peers, and three lines for
         each of 64 hops."""
         self.write("greatest.key", KEY)
         told = self.rly("plan", self.write("plan.toml", GREATEST), "--at=0")
-        self.assertEqual((told.returncode, told.stderr), (0, b""))
+        self.assertEqual(told.returncode, 0)
+        for line in told.stderr.splitlines():
+            self.assertTrue(line.startswith(b"rly: plan: "), line)
         self.assertEqual(told.stdout.count(b"\n"), 258)
         last = b"\nhop 64 resend 160 contacts 0 open 0\nhop 64 contact closed\n"
         self.assertTrue(told.stdout.endswith(last), told.stdout[-200:])

@@ -1,11 +1,22 @@
-"""Texts that are no plan: the refusal of each, and where its first fault is (`docs/FORMATS.md`, "The plan")."""
+"""Texts that are no plan: the refusal of each, where its first fault is, and what to write there (`docs/FORMATS.md`, "The plan")."""
 import re
 
 from plans import FOLDERS, WHOLE, changed, neighbours
 from program import KEY, Rows
 
 # All that is said of a text that is no plan.
-REFUSED = re.compile(r"refused (5[0-4]) plan\nrly: plan: at ([^\n]+)\n")
+REFUSED = re.compile(r"refused (5[0-4]) plan\nrly: plan: at ([^:\n]+): ([^\n]+)\n")
+
+# What to write in place of an address, a contact, contacts, and a route's hop.
+LISTEN = 'write an address with a port, such as "0.0.0.0:4001"'
+REMOTE = 'write an address with a port, such as "10.0.0.3:4001"'
+CONTACT = "write [BEGIN, END] in microseconds since 1970, 0 <= BEGIN < END < 4503599627370496"
+CONTACTS = "write an array of at most 4096 contacts [BEGIN, END]"
+HOP = "write 1 to 1, the id of a hop"
+
+# The keys of a peer and of a hop.
+PEER_KEYS = "write id, station, listen, remote, key"
+HOP_KEYS = f"{PEER_KEYS}, resend, rate, lead, contacts"
 
 
 class Texts(Rows):
@@ -15,16 +26,16 @@ class Texts(Rows):
         return self.rly("plan", self.write("plan.toml", text), "--at=0")
 
     def fault(self, text):
-        """The refusal's number, and where the fault is: 0 and nothing for a plan."""
+        """The refusal's number, where the fault is, and what is said of it: 0 and nothing for a plan."""
         run = self.run_plan(text)
         if run.returncode == 0:
             self.assertTrue(run.stdout.startswith(b"at 1970-01-01T00:00:00Z 0\n"))
-            self.assertEqual(run.stderr, b"")
-            return 0, ""
+            self.assertNotIn(b"refused", run.stderr.replace(b"is refused (2)", b""))
+            return 0, "", ""
         refused = REFUSED.fullmatch(run.stderr.decode())
         self.assertIsNotNone(refused, run.stderr[:1000])
         self.assertEqual((run.returncode, run.stdout), (1, b""))
-        return int(refused[1]), refused[2]
+        return int(refused[1]), refused[2], refused[3]
 
     def expect_number(self, number, text, /, **row):
         with self.subTest(**row):
@@ -38,7 +49,7 @@ class Texts(Rows):
     def expect_place(self, wanted, text, /, **row):
         """The number and the place in one text, which is empty for a plan."""
         with self.subTest(**row):
-            number, place = self.fault(text)
+            number, place = self.fault(text)[:2]
             self.assertEqual(f"{number} {place}" if number else "", wanted)
 
     def expect_places(self, rows, text=WHOLE):
@@ -198,6 +209,29 @@ class Numbers(Texts):
             ("resend = 160\ncontacts", "resend = 9\nroutes", 54),
             ("resend = 160\ncontacts = [[100, 200], [300, 350]]", "resend = 9", 50),
             ("160\ncontacts = [[100, 200], [300, 350]]", "9\ncontacts = [[2, 3], [1, 2]]", 53),
+        ])
+
+    def test_the_rest_is_a_destination(self):
+        """`"rest"` stands where a number stands. No other text does, and it stands once."""
+        self.expect_numbers([
+            ("destination = 12\n", 'destination = "rest"\n', 0),
+            ("destination = 12\n", "destination = 'rest'\n", 0),
+            ("destination = 12\n", 'destination = "Rest"\n', 50),
+            ("destination = 12\n", 'destination = "rest "\n', 50),
+            ("destination = 12\n", 'destination = ""\n', 50),
+            ("destination = 12\n", 'destination = "12"\n', 50),
+            ("destination = 12\n", 'destination = ["rest"]\n', 50),
+            ("destination = 12\nhop = 1\n", 'destination = "rest"\nhop = 2\n', 54),
+            ("destination = 12\nhop = 1\n", 'destination = "rest"\nhop = 65\n', 53),
+            ("destination = 12\nhop = 1\n", 'destination = "rest"\n', 50),
+            ("station = 3\n", 'station = "rest"\n', 50),
+            ("[[route]]\n", '[[route]]\ndestination = "rest"\nhop = 1\n[[route]]\n', 0),
+        ])
+        twice = '[[route]]\ndestination = "rest"\nhop = 1\n' * 2
+        self.expect_places([
+            ("[[route]]\n", f"{twice}[[route]]\n", "52 route[1].destination"),
+            ("destination = 12\n", 'destination = "other"\n', "50 route[1].destination"),
+            ("destination = 12\nhop = 1\n", 'destination = "rest"\nhop = 2\n', "54 route[1].hop"),
         ])
 
     def test_what_is_there_twice_is_52(self):
@@ -440,3 +474,112 @@ class Places(Texts):
         ]:
             last = f"{{ id = 64, station = 64, listen = '', remote = ''{more} }}"
             self.expect_place(wanted, f"station = 7\npeer = [{peer}]\nhop = [{hops}{last}]\n", more=more)
+
+
+class Advice(Texts):
+    """What is said of a fault behind its place: what is there, and what to write."""
+
+    def expect_said(self, rows, text=WHOLE):
+        """Each change of the text gets its place and what is said there."""
+        for old, new, said in rows:
+            with self.subTest(old=old, new=new):
+                self.assertEqual("{1}: {2}".format(*self.fault(changed(old, new, text))), said)
+
+    def test_a_key_that_is_not_known_is_named_with_those_that_are(self):
+        """A name that would need quotes isn't printed."""
+        self.expect_said([
+            ("station = 7", "station = 7\ncolor = 1", "the top: unknown key color; write station, peer, hop, route"),
+            ("station = 7", "station = 7\n'a b' = 1", "the top: unknown key; write station, peer, hop, route"),
+            ("station = 7", "station = 7\n'' = 1", "the top: unknown key; write station, peer, hop, route"),
+            ("station = 7", f"station = 7\n{'n' * 65} = 1", "the top: unknown key; write station, peer, hop, route"),
+            ("station = 7", f"station = 7\n{'n' * 64} = 1", f"the top: unknown key {'n' * 64}; write station, peer, hop, route"),
+            ("station = 3", "station = 3\nA-z_0 = 1", f"peer[1]: unknown key A-z_0; {PEER_KEYS}"),
+            ("station = 3", "station = 3\nrate = 1", f"peer[1].rate: unknown key rate; {PEER_KEYS}"),
+            ("station = 9", "station = 9\nreserd = 1", f"hop[1]: unknown key reserd; {HOP_KEYS}"),
+            ("station = 9", "station = 9\nlimit = 1", f"hop[1].limit: unknown key limit; {HOP_KEYS}"),
+            ("hop = 1\n", "hop = 1\nid = 1\n", "route[1].id: unknown key id; write destination, hop"),
+        ])
+        self.expect_said([
+            ('"in"\n', '"in"\nkey = ""\n', "peer[1].key: unknown key key; write id, station, folder, destination, limit"),
+            ('"out"\n', '"out"\nrate = 1\n', "hop[1].rate: unknown key rate; write id, station, folder, most, lead, contacts"),
+            ('"out"\n', '"out"\nx = 1\n', "hop[1]: unknown key x; write id, station, folder, most, lead, contacts"),
+        ], FOLDERS)
+
+    def test_what_is_missing_or_of_another_type_is_named_with_what_to_write(self):
+        self.expect_said([
+            ("station = 7", "station = ", "line 1, column 11: not TOML from here on"),
+            ("station = 7\n", "", "station: missing; write 1 to 65535"),
+            ("station = 7", 'station = "7"', "station: a value of type string; write 1 to 65535"),
+            ("station = 7", "station = { x = 1 }", "station: a value of type table; write 1 to 65535"),
+            ("[[peer]]", "[peer]", "peer: a value of type table; write 1 to 64 tables [[peer]]"),
+            ("[[route]]", "[route]", "route: a value of type table; write tables [[route]]"),
+            ("id = 1\n", "", "peer[1].id: missing; write 1"),
+            ('listen = "127.0.0.1:4003"', "listen = 4003", f"hop[1].listen: 4003; {LISTEN}"),
+            ('remote = "127.0.0.1:4004"\n', "", f"hop[1].remote: missing; {REMOTE}"),
+            ("station = 3", "station = 3\nkey = 3", 'peer[1].key: 3; write the path of a key\'s file, such as "link.key"'),
+            ("resend = 160", "resend = '9'", "hop[1].resend: a value of type string; write 10 to 3600000 (milliseconds)"),
+            ("resend = 160", "rate = 160.0", "hop[1].rate: a value of type float; write 1 to 1000000000 (bytes a second)"),
+            ("resend = 160", "lead = 2026-12-01", "hop[1].lead: a value of type datetime; write 0 to 86400 (seconds)"),
+            ("[[100, 200], [300, 350]]", "100", f"hop[1].contacts: 100; {CONTACTS}"),
+            ("[300, 350]", "[300]", f"hop[1].contacts[2]: an array of 1; {CONTACT}"),
+            ("[300, 350]", "[300, '350']", f"hop[1].contacts[2]: an array of 2; {CONTACT}"),
+            ("[300, 350]", "{ begin = 300, end = 350 }", f"hop[1].contacts: an array of 2; {CONTACTS}"),
+            ("destination = 12\n", "", 'route[1].destination: missing; write 1 to 65535, or "rest"'),
+            ("hop = 1\n", "hop = true\n", f"route[1].hop: a value of type boolean; {HOP}"),
+        ])
+        self.expect_said([
+            ('"in"', "3", 'peer[1].folder: 3; write the path of a folder, such as "out"'),
+            ("most = 100", "most = '9'", "hop[1].most: a value of type string; write 1 to 1000000 (files)"),
+        ], FOLDERS)
+        self.expect_said([("[1]", "[1]", "peer[1]: 1; write a table [[peer]]")], "station = 7\npeer = [1]\nhop = []\n")
+
+    def test_a_number_out_of_its_limits_is_named_with_them(self):
+        self.expect_said([
+            ("station = 7", "station = -7", "station: -7; write 1 to 65535"),
+            ("station = 3", "station = 65536", "peer[1].station: 65536; write 1 to 65535"),
+            ("id = 1\nstation = 9", "id = 4\nstation = 9", "hop[1].id: 4; write 1"),
+            ("resend = 160", "resend = 9", "hop[1].resend: 9; write 10 to 3600000 (milliseconds)"),
+            ("resend = 160", "rate = 1000000001", "hop[1].rate: 1000000001; write 1 to 1000000000 (bytes a second)"),
+            ("resend = 160", "lead = 86401", "hop[1].lead: 86401; write 0 to 86400 (seconds)"),
+            ("[300, 350]", "[300, 300]", f"hop[1].contacts[2]: [300, 300]; {CONTACT}"),
+            ("[100, 200]", "[-1, 200]", f"hop[1].contacts[1]: [-1, 200]; {CONTACT}"),
+            ("destination = 12", "destination = 0", 'route[1].destination: 0; write 1 to 65535, or "rest"'),
+            ("hop = 1\n", "hop = 65\n", f"route[1].hop: 65; {HOP}"),
+            ("hop = 1\n", "hop = 2\n", f"route[1].hop: 2; {HOP}"),
+        ])
+        self.expect_said([
+            ("destination = 12", "destination = 0", "peer[1].destination: 0; write 1 to 65535"),
+            ("limit = 60000", "limit = 0", "peer[1].limit: 0; write 1 to 1099511627 (milliseconds)"),
+            ("most = 100", "most = 1000001", "hop[1].most: 1000001; write 1 to 1000000 (files)"),
+        ], FOLDERS)
+
+    def test_a_count_out_of_its_limits_is_named_with_them(self):
+        contacts = "".join(f"[{id}0, {id}5]," for id in range(1, 4_098))
+        many = self.fault(changed("[100, 200], [300, 350]", contacts))
+        self.assertEqual(many[1:], ("hop[1].contacts", f"an array of 4097; {CONTACTS}"))
+        for peers, hops, said in [
+            (0, 1, "peer: an array of 0; write 1 to 64 tables [[peer]]"),
+            (65, 1, "peer: an array of 65; write 1 to 64 tables [[peer]]"),
+            (1, 65, "hop: an array of 65; write 1 to 64 tables [[hop]]"),
+        ]:
+            text = f"station = 7\npeer = [{neighbours(peers)}]\nhop = [{neighbours(hops, ', contacts = []')}]\n"
+            with self.subTest(said):
+                self.assertEqual("{1}: {2}".format(*self.fault(text)), said)
+
+    def test_what_is_out_of_order_or_there_twice_is_named_with_the_other_one(self):
+        peer = "[[peer]]\nid = 2\nlisten = ''\nremote = ''\nstation = 4\n[[peer]]\nid = 3\nlisten = ''\nremote = ''\nstation = 3\n"
+        hop = "[[hop]]\nid = 2\nlisten = ''\nremote = ''\ncontacts = []\nstation = 9\n"
+        rest = '[[route]]\nhop = 1\ndestination = "rest"\n'
+        order = "ends; write contacts in order"
+        self.expect_said([
+            ("[300, 350]", "[50, 60]", f"hop[1].contacts[2]: [50, 60] begins before [100, 200] {order}"),
+            ("[300, 350]", "[150, 350]", f"hop[1].contacts[2]: [150, 350] begins before [100, 200] {order}"),
+            ("[[route]]", f"{peer}[[route]]", "peer[1].station: 3, the same as peer[3].station; write another"),
+            ("[[route]]", f"{hop}[[route]]", "hop[1].station: 9, the same as hop[2].station; write another"),
+            (
+                "[[route]]",
+                f"[[route]]\ndestination = 12\nhop = 1\n{rest}[[route]]",
+                "route[1].destination: 12, the same as route[3].destination; write another",
+            ),
+            ("[[route]]", f"{rest}{rest}[[route]]", 'route[1].destination: "rest", the same as route[2].destination; write another'),
+        ])

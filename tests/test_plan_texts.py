@@ -49,7 +49,7 @@ hop = [
   { id = 2, station = 10, listen = 'a', remote = 'b', contacts = [[10, 20], [20, 30], [30, 31], [40, 41]], key = 'FOLDER/k' },
   { id = 3, station = 11, listen = 'c', remote = 'd', resend = 10, rate = 1_200, contacts = [[0, 4_503_599_627_370_495]] },
 ]
-route = [{ destination = 12, hop = 3 }, { destination = 5, hop = 1 }]
+route = [{ destination = 12, hop = 3 }, { destination = "rest", hop = 2 }, { destination = 5, hop = 1 }]
 """
 TOLD = """at 1970-01-01T00:00:00.000015Z 15
 station 65535
@@ -65,6 +65,7 @@ hop 3 station 11 listen c remote d
 hop 3 resend 10 rate 1200 contacts 1 open 4503599627370495
 hop 3 contact open until 2112-09-17T23:53:47.370495Z 4503599627370495
 route 12 hop 3
+route rest hop 2
 route 5 hop 1
 """
 
@@ -142,12 +143,14 @@ class PlanTexts(Rows):
         return text.replace("FOLDER", self.folder)
 
     def expect_told(self, text, moment, told):
-        self.expect("plan", self.write("plan.toml", text), "--at", str(moment), output=told)
+        self.assertEqual(self.told(text, moment), told)
 
     def told(self, text, moment):
-        """What is told of a plan."""
+        """What is told of a plan, beside its warnings."""
         run = self.rly("plan", self.write("plan.toml", text), "--at", str(moment))
-        self.assertEqual((run.returncode, run.stderr), (0, b""))
+        self.assertEqual(run.returncode, 0, run.stderr[:1000])
+        for line in run.stderr.splitlines():
+            self.assertTrue(line.startswith(b"rly: plan: "), line)
         return run.stdout.decode()
 
     def lines_with(self, word, text, moment=0):

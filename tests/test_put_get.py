@@ -9,7 +9,7 @@ import time
 from program import RLY, SECONDS, TOP, Rows
 
 FAILED = "rly: folder failed\nrly: folder: "
-MISSING = FAILED + "No such file or directory (os error 2)\n"
+MISSING = FAILED + "nowhere: No such file or directory (os error 2)\n"
 SUBS = ["new", "out", "refused", "sent"]
 # The longest file: a destination, and the longest payload of any station.
 LONGEST = 8_194
@@ -132,7 +132,7 @@ class Puts(Folders):
         self.expect("put", "spool", input=b"c")
         self.assertEqual(self.names("new")[-1], f"{2**64 - 2:020}")
         self.expect("put", "spool", input=b"d")
-        told = FAILED + "new/18446744073709551615: no number is greater; rename this file\n"
+        told = FAILED + "spool: new/18446744073709551615: no number is greater; rename this file\n"
         self.expect("put", "spool", input=b"e", errors=told, status=1)
         self.assertEqual(self.put_files()[2:], [b"later", b"c", b"d"])
 
@@ -155,7 +155,7 @@ class Puts(Folders):
         for number in range(1, 16_385):
             with open(self.path(f"spool/new/{number:020}"), "wb"):
                 pass
-        full = FAILED + "new: full, at least 16384 files wait; the station that has the folder as a peer takes them\n"
+        full = FAILED + "spool: new: full, at least 16384 files wait; the station that has the folder as a peer takes them\n"
         self.expect("put", "spool", input=b"no", errors=full, status=1)
         os.remove(self.path(f"spool/new/{7:020}"))
         self.expect("put", "spool", "--lines", input=b"yes\nno\n", errors=full, status=1)
@@ -164,18 +164,18 @@ class Puts(Folders):
     def test_refused_folders(self):
         self.write("file", "")
         self.expect("put", "nowhere", errors=MISSING, status=1)
-        self.expect("put", "file", errors=FAILED + "not a folder\n", status=1)
-        self.expect("put", "", errors=MISSING, status=1)
+        self.expect("put", "file", errors=FAILED + "file: not a folder\n", status=1)
+        self.expect("put", "", errors=MISSING.replace("nowhere", ""), status=1)
         self.write("spool/new", "")
         run = self.rly("put", "spool")
         self.assertEqual((run.returncode, run.stdout), (1, b""))
-        self.assertIn(b"rly: folder: new: ", run.stderr)
+        self.assertIn(b"rly: folder: spool: new: ", run.stderr)
 
     def test_a_folder_of_another_user(self):
         self.hand_out()
         run = self.as_nobody("put", "spool", input=b"x")
         self.assertEqual((run.returncode, run.stdout), (1, b""))
-        self.assertRegex(run.stderr.decode(), r"\Arly: folder failed\nrly: folder: .*Permission denied \(os error 13\)\n\Z")
+        self.assertRegex(run.stderr.decode(), r"\Arly: folder failed\nrly: folder: spool: .*Permission denied \(os error 13\)\n\Z")
 
     def test_a_file_system_without_hard_links(self):
         library = self.path("preloaded.so")
@@ -186,7 +186,7 @@ class Puts(Folders):
             run = self.start(command, "spool", env={**os.environ, "LD_PRELOAD": library, "NO_LINKS": "1"})
             output, errors = run.communicate(b"x", timeout=SECONDS)
             self.assertEqual((run.returncode, output), (1, b""))
-            told = FAILED + "the file system has no hard links: Operation not permitted (os error 1)\n"
+            told = FAILED + "spool: the file system has no hard links: Operation not permitted (os error 1)\n"
             self.assertEqual(errors.decode(), told)
 
     def test_two_writers_at_once(self):
@@ -245,7 +245,7 @@ class Waits(Folders):
 
     def test_a_wait_that_is_over(self):
         began = time.monotonic()
-        told = "rly: wait is over\nrly: folder: file 1: not in custody yet; it stays in the folder\n"
+        told = "rly: wait is over\nrly: folder: spool: file 1: not in custody yet; it stays in the folder\n"
         self.expect("put", "spool", "--wait=1", input=b"x", errors=told, status=3)
         self.assertGreaterEqual(time.monotonic() - began, 1)
         self.expect("put", "spool", "--wait=0", input=b"y", errors=told, status=3)
@@ -293,7 +293,7 @@ class Waits(Folders):
             time.sleep(0.2)
             self.assertIsNone(run.poll())
             os.rename(self.path(f"spool/new/{second}"), self.path(f"spool/refused/{3:020}.{reason}"))
-            text = f"rly: file refused\nrly: folder: file 2: {told}; it is in refused/\n"
+            text = f"rly: file refused\nrly: folder: spool: file 2: {told}; it is in refused/\n"
             self.assertEqual(self.ended(run), (1, text))
 
 
@@ -379,7 +379,7 @@ class Gets(Folders):
         run = self.start("get", "spool", "--follow")
         self.wait_for(lambda: os.path.exists(self.path("spool/.get.lock")))
         time.sleep(0.2)
-        self.expect("get", "spool", errors=FAILED + "locked by another process\n", status=1)
+        self.expect("get", "spool", errors=FAILED + "spool: locked by another process\n", status=1)
         run.send_signal(signal.SIGINT)
         self.assertEqual(run.wait(SECONDS), -signal.SIGINT)
         self.expect("get", "spool")
@@ -405,20 +405,20 @@ class Gets(Folders):
 
     def test_a_file_of_no_station(self):
         self.hand_out(b"\0\1a", b"x" * 65_537)
-        told = FAILED + "out: a file of more than 65536 bytes is no station's; remove it\n"
+        told = FAILED + "spool: out: a file of more than 65536 bytes is no station's; remove it\n"
         self.expect("get", "spool", output=b"a", errors=told, status=1)
         self.assertEqual(self.names("out"), [f"{2:020}"])
 
     def test_refused_folders(self):
         self.write("file", "")
         self.expect("get", "nowhere", errors=MISSING, status=1)
-        self.expect("get", "file", errors=FAILED + "not a folder\n", status=1)
+        self.expect("get", "file", errors=FAILED + "file: not a folder\n", status=1)
 
     def test_a_folder_of_another_user(self):
         self.hand_out(b"\0\1a")
         run = self.as_nobody("get", "spool")
         self.assertEqual((run.returncode, run.stdout), (1, b""))
-        self.assertRegex(run.stderr.decode(), r"\Arly: folder failed\nrly: folder: .*Permission denied \(os error 13\)\n\Z")
+        self.assertRegex(run.stderr.decode(), r"\Arly: folder failed\nrly: folder: spool: .*Permission denied \(os error 13\)\n\Z")
 
     def test_a_killed_get_prints_its_last_payload_again_at_most(self):
         count = 400

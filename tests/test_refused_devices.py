@@ -1,13 +1,13 @@
 """Changed devices, and what opening answers to each (docs/FORMATS.md, "What opening checks")."""
-from device_bytes import entry, head, placed_entry
-from journals import FIRST_GROUP, FIRST_TAKE, SIZE, SMALL, STORED, STORED_TAKEN, Journals
+from device_bytes import entry, fields, group, head, placed_entry, take_record
+from journals import FIRST_GROUP, FIRST_TAKE, SIZE, SMALL, STORED, STORED_TAKEN, Journals, words_of
 
-NOT_A_DEVICE = "refused 20 notadevice\n"
-BAD_GEOMETRY = "refused 21 badgeometry\nrly: device: header value out of limits, or file too short\n"
+NOT_A_DEVICE = "refused 20 notadevice\nrly: device: device: not a device; `rly format` makes one\n"
+BAD_GEOMETRY = "refused 21 badgeometry\nrly: device: device: header value out of limits, or file too short\n"
 
 
 def damaged(place):
-    return f"refused 22 damaged {place}\n"
+    return f"refused 22 damaged {place}\nrly: device: device: damaged at byte {place}\n"
 
 
 def placed(form, body, place, length=1):
@@ -97,6 +97,58 @@ LENGTHS = [
     (1_201, 242_836, 1_201, True),
 ]
 
+# Places in the state of a head of one datagram that waits, with its one byte inline, and a byte there that no state has.
+FOREIGN = {
+    2: [
+        # fewer commands than datagrams, and more than the maximum; a peer's number above the number of datagrams taken
+        (7, 0), (1, 1), (15, 2),
+        # times out of range; CoDel's times, its counts, and a flag that is none
+        (16, 0xFF), (16, 0x10), (23, 0xFF), (30, 0xFF), (42, 1), (48, 1), (49, 2),
+        # counts that don't add up; more entries than bytes
+        (50, 0xFF), (61, 1), (67, 1), (73, 1), (74, 0xFF), (76, 0xFF),
+        # an id of 0, one above all, and a stamp above the hop's time; a length that isn't the payload's, and another form
+        (85, 0), (85, 2), (92, 1), (99, 0), (100, 1),
+    ],
+    1: [
+        (7, 0), (1, 1), (15, 2), (16, 0xFF), (24, 0xFF), (47, 1), (56, 2), (57, 0xFF), (64, 2), (72, 1), (81, 0xFF), (83, 0xFF),
+        (94, 0), (94, 2), (102, 1), (104, 0), (105, 1),
+    ],
+}
+
+# The state after the last command, which took a datagram at the latest time, and what is put at which of its places: the peer sent,
+# and the hop took, as many datagrams as there may be, all of which but one were dropped, or released, or have expired; CoDel's counts
+# are equal to that; its times are an interval after the last one, and one of them a microsecond later.
+LAST = head(2, 1, 102, accepted=2**48 - 1, last=1, moment=2**52 - 1, taken=1, waiting=1) + fields(
+    (6, 2**48 - 1), (7, 2**52 - 1), (5, 0), (2, 1), (1, 0), (1, 0x41)
+)
+MOST, LESS = (2**48 - 1).to_bytes(6, "big"), (2**48 - 2).to_bytes(6, "big")
+ALL = {10: MOST, 50: MOST}
+INTERVAL, LATER = (2**52 - 1 + 100_000).to_bytes(7, "big"), (2**52 + 100_000).to_bytes(7, "big")
+GREATEST = [
+    ("the greatest limit", {93: b"\xff" * 5}, True),
+    ("all were dropped", {**ALL, 56: LESS}, True),
+    ("all were released", {**ALL, 62: LESS}, True),
+    ("all have expired", {**ALL, 68: LESS}, True),
+    ("CoDel's counts are those that were dropped", {**ALL, 56: LESS, 37: LESS, 43: LESS}, True),
+    ("CoDel's counts are those that were released", {**ALL, 62: LESS, 37: LESS, 43: LESS}, False),
+    ("CoDel's counts are those that have expired", {**ALL, 68: LESS, 37: LESS, 43: LESS}, False),
+    ("an interval after the last time", {23: INTERVAL, 30: INTERVAL}, True),
+    ("a microsecond later", {23: INTERVAL, 30: LATER}, False),
+]
+
+# Ids of three datagrams, the first of which is in flight, and whether they are in order.
+IDS = [((1, 2, 3), True), ((1, 1, 3), False), ((3, 2, 4), False), ((0, 2, 3), False)]
+
+# The longest payload of a spool on two segments, the length of one inline, and whether the head is read then.
+INLINE_LENGTHS = [
+    (1, 1, True), (1, 2, False), (7, 7, True), (7, 8, False), (1_200, 1_200, True), (1_200, 1_201, False), (8_192, 8_192, True),
+    (8_192, 8_193, False),
+]
+
+# The body of the first take: a count, and a record. A kind that isn't 1, 2, 3 or 5 is none.
+TAKE_BODY = fields((2, 1)) + take_record(1, 0, b"\x41")
+KINDS = [0x00, 0x04, 0xFF]
+
 # What `audit` tells of a device on which one datagram waits.
 ONE_WAITS = "hop 1 taken 1 queued 1 flight 0 dropped 0 released 0\npeer 1 last 1\nseq 1\nbalance ok\n"
 
@@ -157,3 +209,66 @@ class RefusedDevices(Journals):
     def test_a_group_that_stands_twice(self):
         """A group that was made before is refused at its own gate: its Take is not accepted again."""
         self.expect_refused(self.changed("stored and taken", {195: FIRST_GROUP[:31]}), damaged(195))
+
+    def put_head(self, head):
+        device = self.devices["formatted"]
+        self.put(device[:64] + head + device[64 + len(head) :])
+
+    def expect_head(self, head, is_read):
+        self.put_head(head)
+        if is_read:
+            run = self.rly("audit", "device")
+            self.assertEqual((run.returncode, run.stdout.decode().splitlines()[-1]), (0, "balance ok"))
+        else:
+            self.expect_refused(self.read("device"), damaged(64))
+
+    def test_each_foreign_byte_of_a_head(self):
+        """And a length that isn't that of the state."""
+        for form, places in FOREIGN.items():
+            whole = inline(form, 102 if form == 2 else 107)
+            self.expect_head(whole, True)
+            for place, byte in places:
+                with self.subTest(form=form, place=place):
+                    self.expect_head(whole[: 13 + place] + bytes([byte]) + whole[14 + place :], False)
+            for length in (0, len(whole) - 14, len(whole) - 12):
+                with self.subTest(form=form, length=length):
+                    self.expect_head(inline(form, length) + b"\x41", False)
+
+    def test_the_greatest_numbers_of_a_head(self):
+        for what, changes, is_read in GREATEST:
+            with self.subTest(what):
+                changed = bytearray(LAST)
+                for place, content in changes.items():
+                    changed[13 + place : 13 + place + len(content)] = content
+                self.expect_head(bytes(changed), is_read)
+
+    def test_ids_are_in_order(self):
+        for ids, is_read in IDS:
+            with self.subTest(ids):
+                entries = b"".join(entry(2, id, b"\x41") for id in ids)
+                front = head(2, 1, 80 + len(entries), accepted=5, last=3, taken=3, in_flight=1, waiting=2)
+                self.expect_head(front + entries, is_read)
+
+    def test_an_inline_payload_is_as_long_as_the_longest(self):
+        for longest, length, is_read in INLINE_LENGTHS:
+            with self.subTest(longest=longest, length=length):
+                self.write("device", b"")
+                self.rly("format", "device", *words_of({**SMALL, "bytes": 16_384, "segments": 2, "payload": longest}))
+                self.devices["formatted"] = self.read("device")
+                for form, front in ((2, 80), (1, 87)):
+                    payload = entry(form, 1, b"\x41" * length)
+                    self.expect_head(head(form, 1, front + len(payload), accepted=1, last=1, taken=1, waiting=1) + payload, is_read)
+
+    def test_bodies_of_groups_that_are_damage(self):
+        """Each cut of a body, a byte after it, and another kind of record. A group ends in its segment."""
+        bodies = [TAKE_BODY[:length] for length in range(len(TAKE_BODY))]
+        bodies += [TAKE_BODY + b"\x41", *[TAKE_BODY[:2] + bytes([kind]) + TAKE_BODY[3:] for kind in KINDS]]
+        device = self.devices["formatted"]
+        for body in bodies:
+            with self.subTest(body.hex()):
+                part = fields((1, 0xA5), (4, len(body))) + body
+                self.expect_refused(device[:157] + part + device[157 + len(part) :], damaged(157))
+        for length in (82_908, 82_972 - 157 - 4, 2**32 - 1):
+            with self.subTest(length=length):
+                part = group(length, TAKE_BODY[2:])
+                self.expect_refused(device[:157] + part + device[157 + len(part) :], damaged(157))

@@ -1,5 +1,5 @@
 """Worked rounds on devices: copies, what expires, payloads of every length, and a spool of 64 hops and peers."""
-from device_bytes import group, head, header, take_record
+from device_bytes import CLOSED, OPEN, fields, group, head, header, take_record
 from journals import FIRST_GROUP, FIRST_HEADER, FIRST_TAKE, SMALL, STORED, Journals, parameter_lines, take
 
 # Payloads of up to 8,192 bytes, on two segments of the least length for them.
@@ -43,6 +43,20 @@ class Rounds(Journals):
         self.expect_told([(FIRST_TAKE, "taken 1 1"), (FIRST_TAKE, "already 1 1")])
         self.expect_bytes(157, FIRST_GROUP)
         self.expect_books("hop 1 taken 1 queued 1 flight 0 dropped 0 released 0\npeer 1 last 1\nseq 1\nbalance ok\n")
+
+    def test_a_record_that_is_given_up(self):
+        """A group of three records. One that is refused leaves nothing: the next record takes its place."""
+        self.make_two()
+        self.expect_told([
+            ("take 1 1 1 10 070809", "taken 1 1"),
+            ("take 1 3 1 10 0102", "refused 4 gap 2"),
+            ("take 1 2 1 10 -", "taken 1 2"),
+            ("take 1 3 1 10 05", "taken 1 3"),
+        ])
+        records = take_record(1, 10, b"\x07\x08\x09") + take_record(2, 10, b"") + take_record(3, 10, b"\x05")
+        self.expect_bytes(157, fields((1, OPEN), (4, 75), (2, 3)) + records + CLOSED)
+        picks = [("pick 1 10", f"picked 1 {number} {number}") for number in (1, 2, 3)]
+        self.expect_told(picks, [("fetch 1 1", "bytes 1 1 070809"), ("fetch 1 2", "bytes 1 2 -"), ("fetch 1 3", "bytes 1 3 05")])
 
     def test_what_expired_is_listed(self):
         """Each reply lists what has expired before what went into flight."""

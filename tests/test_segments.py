@@ -1,7 +1,7 @@
 """Devices of two, three and 256 segments, which are opened in turn: what they tell, beside the plain machine, and their heads."""
 from device_bytes import FORM_2, OPEN, fields, group, pick_record, take_record
-from journals import Journals, lines_of, take, words_of
-from program import BAD_OPTIONS
+from journals import SECOND_GATE, SMALL, Journals, lines_of, take, words_of
+from program import bad_option
 
 # Room for 64 datagrams of 1,200 bytes, on three segments of the least length and on two, and the bytes of these devices.
 SPOOL = {"hops": 1, "peers": 1, "window": 64, "items": 64, "bytes": 76_800}
@@ -19,6 +19,20 @@ DAMAGED = [fields((1, OPEN), (4, 2), (2, 0)), group(13, pick_record(6))]
 # Two hops and two peers, 330 datagrams and 10,240 bytes, on 256 segments of the least length.
 MANY = {"hops": 2, "peers": 2, "window": 64, "items": 330, "bytes": 10_240, "segments": 256, "length": 87_409}
 MANY_SIZE = 22_376_768
+# Options of a spool, its number of segments, and their least length, which has the room of a group and goes by the longest payload.
+LEASTS = [
+    (SMALL, 2, 82_908),
+    ({**SMALL, "payload": 1}, 2, 6_172),
+    ({**SMALL, "payload": 1_201}, 2, 82_972),
+    ({**SMALL, "payload": 8_192}, 2, 530_396),
+    ({**SMALL, "bytes": 8_192, "payload": 8_192}, 2, 534_492),
+    (SPOOL, 2, 156_908),
+    (SPOOL, 3, 118_508),
+    (SPOOL, 256, 80_409),
+    ({}, 4, 455_790),
+    ({"payload": 8_192}, 4, 903_278),
+]
+
 MANY_BOOKS = """hop 1 taken 320 queued 0 flight 32 dropped 0 released 288
 hop 2 taken 2560 queued 0 flight 0 dropped 0 released 2560
 peer 1 last 320
@@ -94,7 +108,7 @@ class Openings(Journals):
         for damage in DAMAGED:
             with self.subTest(damage.hex()):
                 self.put_at_first_gate(damage)
-                self.expect("audit", "device", errors="refused 22 damaged 157\n", status=1)
+                self.expect("audit", "device", errors="refused 22 damaged 157\nrly: device: device: damaged at byte 157\n", status=1)
 
     def test_segments_that_are_too_short(self):
         """Segments of one byte less than the least are refused, and nothing is written."""
@@ -102,9 +116,33 @@ class Openings(Journals):
             with self.subTest(short):
                 self.write("device", bytes(THREE_SIZE))
                 words = words_of({**options, "length": short})
-                self.expect("format", "device", *words, errors=BAD_OPTIONS, status=1)
+                errors = bad_option(f"--length={short}", short + 1, 2**31 - 1)
+                self.expect("format", "device", *words, errors=errors, status=1)
                 self.assertEqual(self.read("device"), bytes(THREE_SIZE))
                 self.expect("format", "device", *words_of(options), output=f"formatted {size}\n")
+
+    def test_the_least_length_of_segments(self):
+        """And not a byte less."""
+        for options, segments, least in LEASTS:
+            with self.subTest(options=options, segments=segments):
+                self.write("device", b"")
+                words = words_of({**options, "segments": segments})
+                short = bad_option(f"--length={least - 1}", least, 2**31 - 1)
+                self.expect("format", "device", *words, f"--length={least - 1}", errors=short, status=1)
+                self.expect("format", "device", *words, f"--length={least}", output=f"formatted {64 + segments * least}\n")
+
+    def test_a_segment_is_due_where_the_largest_group_has_no_room(self):
+        """Of 78,280 bytes: after the offset 4,628 of 82,908 none is, and after 4,629 one is. With payloads of 8,192 bytes it has 525,768:
+        after 8,724 of 534,492 none is."""
+        for length in (779, 780):
+            self.make_two()
+            first = [[take(number, 0, 1_200)] for number in (1, 2, 3)]
+            self.expect_same(*first, ["pick 1 0"], ["done 1 1"], [take(4, 0, length)], ["pick 1 0"])
+            self.assertEqual(self.read("device")[SECOND_GATE] == OPEN, length == 780)
+        for length in (343, 344):
+            self.make_two({**SMALL, "bytes": 8_192, "payload": 8_192}, 1_069_048)
+            self.expect_same([take(1, 0, 8_192)], ["pick 1 0"], ["done 1 1"], [take(2, 0, length)], ["pick 1 0"])
+            self.assertEqual(self.read("device")[534_556] == OPEN, length == 344)
 
     def test_a_datagram_is_there_again(self):
         """It is taken and picked, the device is opened again, and the datagram is fetched and released."""

@@ -53,17 +53,22 @@ ANSWERS = [
     b"RL",
 ]
 
+# What is told of CoDel at the hop of `PLAN`.
+CODEL = "rly: hop 1: CoDel drops what waited more than 5 ms over 100 ms of open contact\n"
+
 # What is told of a relay of 20 turns on a new small device.
 SERVED = """rly: serving station 7, 1 peers, 1 hops, device 320772 bytes, 0 of 16 live
 rly: links without a key: peer 1, hop 1
+rly: hop 1: CoDel drops what waited more than 5 ms over 100 ms of open contact
 rly: ended after 20 turns
 """
 
 # What is told of one on a small device of two segments whose first write fails.
 BROKEN = """rly: serving station 7, 1 peers, 1 hops, device 165880 bytes, 0 of 16 live
 rly: links without a key: peer 1, hop 1
+rly: hop 1: CoDel drops what waited more than 5 ms over 100 ms of open contact
 refused 11 broken
-rly: room: File too large (os error 27)
+rly: room: device: File too large (os error 27)
 """
 
 # The place behind the gate of a small device's first group. The gate follows the header and the head of the first segment.
@@ -74,25 +79,25 @@ ONE_TAKEN = "hop 1 taken 1 queued 1 flight 0 dropped 0 released 0\npeer 1 last 1
 NONE_TAKEN = "hop 1 taken 0 queued 0 flight 0 dropped 0 released 0\npeer 1 last 0\nseq 0\nbalance ok\n"
 
 # What is told of a plan that isn't there, and of one that is no text.
-NO_PLAN = "rly: plan failed\nrly: plan: No such file or directory (os error 2)\n"
-NO_TEXT = "rly: plan failed\nrly: plan: stream did not contain valid UTF-8\n"
+NO_PLAN = "rly: plan failed\nrly: plan: nowhere: No such file or directory (os error 2)\n"
+NO_TEXT = "rly: plan failed\nrly: plan: plan: stream did not contain valid UTF-8\n"
 
 # Plans, and what is told of a relay of theirs whose device isn't there.
 PLANS = [
     (b"station = 7 # \xff\n", NO_TEXT),
-    ("station = 7\n", "refused 50 plan\nrly: plan: at peer\n"),
-    ("color = 7\n", "refused 54 plan\nrly: plan: at the top\n"),
+    ("station = 7\n", "refused 50 plan\nrly: plan: at peer: missing; write 1 to 64 tables [[peer]]\n"),
+    ("color = 7\n", "refused 54 plan\nrly: plan: at the top: unknown key color; write station, peer, hop, route\n"),
     (PLAN.format(4001, 4002, 4003, 4004), NO_DEVICE),
 ]
 
 # What is told where a plan has more peers or hops than the small device.
-NO_ROOM = "refused 21 badgeometry\nrly: plan: more peers or hops than the device\n"
+NO_ROOM = "refused 21 badgeometry\nrly: plan: {} peers and {} hops, but the device has --peers 1 and --hops 1\n"
 
 # Plans of so many peers and hops whose links have these addresses, and what is told of a relay of theirs on a small device.
 # `FREE` is an address that is free.
 LINKS = [
-    (2, 1, "nowhere", "nowhere", NO_ROOM),
-    (1, 2, "nowhere", "nowhere", NO_ROOM),
+    (2, 1, "nowhere", "nowhere", NO_ROOM.format(2, 1)),
+    (1, 2, "nowhere", "nowhere", NO_ROOM.format(1, 2)),
     (1, 1, "127.0.0.1:0", "FREE", "rly: link failed\nrly: peer 1: listen 127.0.0.1:0: a neighbour can't send to port 0\n"),
     (
         1,
@@ -323,7 +328,7 @@ class Starts(Stations):
                 self.write("plan", text)
                 self.expect_end(errors)
         self.write("device", "no device")
-        self.expect_end("refused 20 notadevice\n")
+        self.expect_end("refused 20 notadevice\nrly: device: device: a text, not a device; `rly serve FILE PLAN` has the device first\n")
         self.expect("serve", "device", "nowhere", "--turns=1", errors=NO_PLAN, status=1)
 
     def test_a_relay_needs_room_and_links(self):

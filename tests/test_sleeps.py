@@ -199,7 +199,7 @@ class Ends(Sleeping):
         self.peers[1].sendto(data(1, 1), ("127.0.0.1", self.peer_ports[1]))
         _output, errors = run.communicate(timeout=LATEST)
         self.assertEqual(run.returncode, 1)
-        self.assertTrue(errors.endswith(b"refused 11 broken\nrly: room: File too large (os error 27)\n"), errors)
+        self.assertTrue(errors.endswith(b"refused 11 broken\nrly: room: device: File too large (os error 27)\n"), errors)
 
     def test_a_signal_ends_a_relay_that_sleeps(self):
         self.neighbours(3, [(0, END / 1e6)])

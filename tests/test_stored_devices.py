@@ -6,7 +6,7 @@ from device_bytes import (
     CLOSED, entry, fields, group, head, laid_out, limited_record, pick_record, release_record, take_record,
 )
 from journals import (
-    FIRST_GROUP, FIRST_HEADER, FIRST_TAKE, HEADER, SECOND_GATE, SIZE, SMALL, STORED, STORED_TAKEN, Journals, take,
+    FIRST_GROUP, FIRST_HEADER, FIRST_TAKE, HEADER, SECOND_GATE, SIZE, SMALL, STORED, STORED_TAKEN, Journals, take, words_of,
 )
 
 # A datagram with a limit, its group, and the closed gate after it.
@@ -107,6 +107,19 @@ class Written(StoredDevices):
     def test_a_device_that_was_formatted(self):
         self.make_two()
         self.expect_device(laid_out(SIZE, {0: HEADER, 64: head(2, 1, 80)}))
+
+    def test_a_format_writes_no_other_byte(self):
+        """Over a file of gates that read open, of closed ones, and a device of version 1 with other bytes where it wrote none."""
+        filled = {51: b"\xff" * 13, 165: b"\xff" * (SIZE - 165)}
+        first = laid_out(SIZE, {0: FIRST_HEADER, 64: head(1, 1, 87) + CLOSED, **filled, SECOND_GATE: CLOSED})
+        for old in (b"\xa5" * SIZE, bytes(SIZE), first):
+            with self.subTest(old=old[:13].hex()):
+                self.write("device", old)
+                self.expect("format", "device", *words_of({**SMALL, "segments": 2}), output=f"formatted {SIZE}\n")
+                wanted = bytearray(old)
+                for place, part in {0: HEADER, 64: head(2, 1, 80) + CLOSED, SECOND_GATE: CLOSED}.items():
+                    wanted[place : place + len(part)] = part
+                self.expect_device(bytes(wanted))
 
     def test_a_device_that_took_one_datagram(self):
         self.put_taken(False)

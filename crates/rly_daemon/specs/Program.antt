@@ -1,6 +1,6 @@
 -- The result of a run of the program, by its command line (docs/COMMANDS.md).
 use Rattle.std.specs.Prelude.{◌≡◌, ◌⊎◌, ℕ, ◌+◌, ◌-◌, ◌*◌, ◌^◌, ◌≤◌, ◌==◌, MatchBool, List, [], ◌∷◌, ◌++◌, length, IfSome, ⊤}
-use Rattle.std.specs.Prelude.{Bool, Option, None, true, false, codes, unwrap_or}
+use Rattle.std.specs.Prelude.{Bool, Option, None, true, false, codes, is_some, unwrap_or}
 use Rattle.std.specs.Fmt.{decimal}
 use Rattle.std.specs.Io.KnownBytes.{Appends}
 use Rattle.rly_core.specs.Limits.{IsWithinLimits}
@@ -17,7 +17,7 @@ use Rattle.rly_daemon_reporter.specs.declared.reporter.ReporterEnd.TheVariants.{
 use Rattle.rly_segment.specs.Device.{IsLayout, device_length}
 use Rattle.rly_daemon_args.specs.declared.given.Settings.{Settings}
 use Rattle.rly_daemon_args.specs.declared.given.Settings.TheVariants.{Sim, Format, Play, Audit, Serve, Key, Plan, Put, Get}
-use Rattle.rly_daemon_commands.specs.Commands.{HasFormatted, HasPlayed, HasReport}
+use Rattle.rly_daemon_commands.specs.Commands.{HasAudited, HasFormatted, HasPlayed}
 use Rattle.rly_daemon_commands.specs.FileDisk.{file_state}
 use Rattle.rly_daemon_commands.specs.FormatCommand.{wanted_geometry}
 use Rattle.rly_daemon_commands.specs.NewKey.{HasKey}
@@ -96,18 +96,18 @@ abbrev pub IsDone : {R : Type 0} → (H : Type 0) → Settings → R → R → O
     → Option (List ℕ) → Option (List ℕ) → Type 0
 IsDone H (Sim params) before behind left old new told_old told_new = IsWithinLimits params
     × IfSome left (λ input. Appends old new (text_for (new_state params) input)) × (told_new ≡ told_old)
-IsDone H (Format file params segments length force) before behind left old new told_old told_new = (behind ≡ before)
+IsDone H (Format file params segments length force allocate) before behind left old new told_old told_new = (behind ≡ before)
     × HasFormatted (wanted_geometry params segments length) force old new × (told_new ≡ told_old)
 IsDone H (Play file batch) before behind left old new told_old told_new =
     HasPlayed batch left old new × (told_new ≡ told_old)
-IsDone H (Audit file) before behind left old new told_old told_new =
-    (behind ≡ before) × HasReport old new × (told_new ≡ told_old)
+IsDone H (Audit file made copy) before behind left old new told_old told_new =
+    (behind ≡ before) × HasAudited made copy old new × (told_new ≡ told_old)
 IsDone H (Serve file plan turns report gather events) before behind left old new told_old told_new = (behind ≡ before)
     × HasServedWith turns report events old new told_new
 IsDone H Key before behind left old new told_old told_new =
     (behind ≡ before) × HasKey old new × (told_new ≡ told_old)
-IsDone H (Plan plan at) before behind left old new told_old told_new =
-    (behind ≡ before) × HasShownPlan at old new × (told_new ≡ told_old)
+IsDone H (Plan plan at device) before behind left old new told_old told_new =
+    (behind ≡ before) × HasShownPlan at (is_some device) old new told_old told_new
 IsDone H (Put folder lines destination limit wait) before behind left old new told_old told_new =
     HasPut H folder.now (put_form lines destination) (put_limit limit) left × (new ≡ old) × (told_new ≡ told_old)
 IsDone H (Get folder lines raw count follow) before behind left old new told_old told_new = (behind ≡ before)
@@ -127,6 +127,6 @@ is_wait_over (Folder fault) = is_over fault
 -- the values of a spool or of a device are out of their limits
 abbrev pub IsOutOfLimits : Settings → Type 0
 IsOutOfLimits (Sim params) = ¬ IsWithinLimits params
-IsOutOfLimits (Format file params segments length force) =
+IsOutOfLimits (Format file params segments length force allocate) =
     ¬ IsLayout (wanted_geometry params segments length) (device_length (wanted_geometry params segments length))
 IsOutOfLimits _ = ⊥

@@ -1,10 +1,13 @@
 //! The program `rly` as a library. `run` takes a command line and streams, executes the command
 //! and returns the exit status; `specs/Program.antt` defines the result of each command that
-//! succeeds. It dispatches to `rly_daemon_commands`, `rly_daemon_lines`, `rly_daemon_args`,
-//! `rly_daemon_folder`, `rly_station` and `rly_daemon_serve`. Caller: only the program `rly`.
+//! succeeds, and `complaint_of` makes the lines of one that fails. It dispatches to
+//! `rly_daemon_commands`, `rly_daemon_lines`, `rly_daemon_args`, `rly_daemon_folder`, `rly_station`
+//! and `rly_daemon_serve`. Caller: only the program `rly`.
 #![tactic(auto)]
 
+mod complaint;
 mod counted_disk;
+mod file_look;
 mod folder_commands;
 mod gate_tally;
 mod program;
@@ -26,6 +29,7 @@ pub use rly_daemon_serve::{
 pub use rly_link_udp::{UdpLink, WallClock};
 pub use rly_posts::NeighbourLink;
 pub use rly_station::{
-    AddressFault, Cause, End, EndFault, FileFault, FilePart, FolderFault, FolderWord, KeyFault,
-    KeyWord, KeyedWorker, NamedKey, PlanKeys, ServeFault, SystemWord, key_in, read_keys, read_plan,
+    AddressFault, Cause, End, EndFault, ErrorOutput, FileFault, FilePart, FolderFault, FolderWord,
+    KeyFault, KeyWord, KeyedWorker, LineForm, NamedKey, PlanKeys, ServeFault, SystemWord, key_in,
+    read_keys, read_plan,
 };

@@ -8,6 +8,7 @@ ghost use Rattle.rly_daemon_commands.specs.NewKey.{HasKey};
 ghost use Rattle.rly_daemon.specs.Helpers.{WasAsked};
 ghost use Rattle.rly_daemon.specs.Program.{IsDone, IsOutOfLimits, Waits, is_wait_over};
 
+use crate::complaint::complaint_of;
 use crate::folder_commands::{get_files, put_files};
 use crate::program_fault::ProgramFault;
 use crate::serve_command::run_serving;
@@ -20,7 +21,9 @@ use rly_daemon_folder::Form;
 use rly_daemon_lines::TextFault;
 use rly_daemon_serve::RelaySettings;
 use rly_station::Cause;
+use std::alloc::Global;
 use std::convert::AsStr;
+use std::env::Env;
 use std::fmt::Display;
 use std::fs::{File, Files};
 use std::io::{Read, Write};
@@ -31,7 +34,7 @@ use std::thread::Threads;
 use std::time::{Clock, Duration};
 
 /// The requirements of the program on its runtime. Only `rly serve` starts threads and waits for them; it, `rly put` and
-/// `rly get` use the network, and only `rly key` uses randomness.
+/// `rly get` use the network, only `rly key` uses randomness, and only `rly serve` reads the environment.
 pub trait Host: AllocGlobal
     + Files<File = File>
     + Net
@@ -39,10 +42,12 @@ pub trait Host: AllocGlobal
     + Wait
     + Clock
     + RandomSource
+    + Env
     + Sync {}
 
-impl<H: AllocGlobal + Files<File = File> + Net + Threads + Wait + Clock + RandomSource + Sync> Host
-    for H {}
+impl<
+    H: AllocGlobal + Files<File = File> + Net + Threads + Wait + Clock + RandomSource + Env + Sync,
+> Host for H {}
 
 /// Runs the program on a command line, the program's name first, and returns its exit status: 0, even if reply
 /// lines are refusals; 1 if a command failed, or a journal ended broken; 2 for a bad command line; 3 if a put has no
@@ -72,14 +77,15 @@ where
     match settings(rt.alloc(), words) {
         Ok(settings) => match obey(rt, settings, reader, writer, errors) {
             Ok(()) => 0,
-            Err(fault) => report_fault(&fault, errors),
+            Err(fault) => report_fault(rt, &settings, &fault, errors),
         },
-        Err(fault) => report_settings_fault(&fault, writer, errors),
+        Err(fault) => report_settings_fault(rt.alloc(), &fault, writer, errors),
     }
 }
 
 /// Writes the reason why a command line gives no settings, or the requested help, and returns the status.
 fn report_settings_fault<W: Write, E: Write>(
+    alloc: Global,
     fault: &SettingsFault,
     writer: &mut W,
     errors: &mut E,
@@ -90,7 +96,7 @@ fn report_settings_fault<W: Write, E: Write>(
 {
     match fault {
         SettingsFault::Asked(text) => show(text, writer, errors),
-        SettingsFault::CommandLine(text) => complain(text, errors),
+        SettingsFault::CommandLine(text) => complain(alloc, text, errors),
         SettingsFault::OutOfMemory => fail(fault, errors),
     }
 }
@@ -124,11 +130,16 @@ where
             segments,
             length,
             force,
-        } => ProgramFault::of(run_format(rt, file, params, segments, length, force, writer)),
+            allocate,
+        } => ProgramFault::of(run_format(
+            rt, file, params, segments, length, force, allocate, writer,
+        )),
         Settings::Play { file, batch } => {
             ProgramFault::of(run_play(rt, file, batch, reader, writer))
         }
-        Settings::Audit { file } => ProgramFault::of(run_audit(rt, file, writer)),
+        Settings::Audit { file, made, copy } => {
+            ProgramFault::of(run_audit(rt, file, made, copy, writer))
+        }
         Settings::Serve {
             file,
             plan,
@@ -144,7 +155,9 @@ where
             ProgramFault::of(run_serving(rt, file, plan, settings, report, events, writer, errors))
         }
         Settings::Key => ProgramFault::of(new_key(rt, writer)),
-        Settings::Plan { plan, at } => ProgramFault::of(run_plan(rt, plan, at, writer)),
+        Settings::Plan { plan, at, device } => {
+            ProgramFault::of(run_plan(rt, plan, at, device, writer, errors))
+        }
         Settings::Put {
             folder,
             lines,
@@ -182,20 +195,40 @@ fn show<T: Display, W: Write, E: Write>(text: &T, writer: &mut W, errors: &mut E
 }
 
 /// Writes the fault of a command line, and returns the status.
-fn complain<T: Display, E: Write>(text: &T, errors: &mut E) -> u8
+fn complain<T: Display, E: Write>(alloc: Global, text: &T, errors: &mut E) -> u8
     ensures { result ≡ 2 }
 {
-    // Ignore errors: nowhere left to report.
-    let _told = write!(errors, "{text}");
+    match format!(in alloc; "{text}") {
+        Ok(lines) => write_lines(&lines, errors),
+        Err(_refused) => {
+            let _status = fail(&SettingsFault::OutOfMemory, errors);
+        }
+    }
     2
 }
 
 /// Writes the error of the program, and returns its status.
-fn report_fault<E: Write>(fault: &ProgramFault, errors: &mut E) -> u8
+fn report_fault<H: Host, E: Write>(
+    rt: &H,
+    settings: &Settings<'_>,
+    fault: &ProgramFault,
+    errors: &mut E,
+) -> u8
     ensures { result ≡ (if is_wait_over fault.now then 3 else 1) }
 {
-    let status = fail(fault, errors);
-    if fault.is_wait_over() { 3 } else { status }
+    match complaint_of(rt, settings, fault) {
+        Ok(lines) => write_lines(&lines, errors),
+        Err(_refused) => {
+            let _status = fail(fault, errors);
+        }
+    }
+    if fault.is_wait_over() { 3 } else { 1 }
+}
+
+/// Writes lines to standard error.
+fn write_lines<E: Write>(lines: &String, errors: &mut E) {
+    // Ignore errors: nowhere left to report.
+    let _told = errors.write_all(lines.as_bytes());
 }
 
 /// Writes the error of a command, and returns its status.

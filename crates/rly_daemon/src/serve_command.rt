@@ -9,7 +9,7 @@ ghost use Rattle.rly_daemon.specs.Program.{HasServed, HasServedReporting, HasSer
 use crate::counted_disk::CountedDisk;
 use crate::gate_tally::GateTally;
 use crate::program::Host;
-use rly_core::Refusal;
+use rly_core::{HopId, PeerId, Refusal};
 use rly_daemon_commands::{CommandFault, FileDisk, open_journal, refusal_with_cause};
 use rly_daemon_events::{HopLines, Rests, SharedOutput};
 use rly_daemon_lines::TextFault;
@@ -19,11 +19,11 @@ use rly_daemon_serve::{
 };
 use rly_disk::Disk;
 use rly_journal::Journal;
-use rly_link::{Link, Turn, Waker};
+use rly_link::{Link, Turn, Waker, Worker};
 use rly_plan::Plan;
 use rly_segment::read_header;
-use rly_station::{ErrorLines, ServeFault, read_keys, read_plan};
-use rly_threads::Relayed;
+use rly_station::{ErrorLines, LineForm, ServeFault, read_keys, read_plan};
+use rly_threads::{Ended, Relayed};
 use std::alloc::{AllocError, Global};
 use std::fs::{File, Files};
 use std::io::Write;
@@ -72,10 +72,10 @@ where
     ensures served { OnOk result (HasServed settings.turns (E.contents errors.new)) }
 {
     let keys = read_keys(rt, plan, path)?;
-    let lines = shared_lines(rt.alloc())?;
+    let lines = shared_lines(rt)?;
     let (journal, size) = open_file(rt, file, &lines)?;
     match serve(rt, journal, plan, keys, settings, size, lines, errors) {
-        Ok(served) => relay_ended(settings.turns, served, errors),
+        Ok(served) => relay_ended(settings.turns, plan, served, errors),
         Err(failed) => Err(fault_of(failed)),
     }
 }
@@ -98,7 +98,7 @@ where
         (HasServedReporting settings.turns (W.contents writer.old) (W.contents writer.new) (E.contents errors.new)) }
 {
     let keys = read_keys(rt, plan, path)?;
-    let lines = shared_lines(rt.alloc())?;
+    let lines = shared_lines(rt)?;
     let (journal, size, tally) = open_tallied(rt, file, plan, None, &lines)?;
     let stop_flag = OnceLock::new();
     let reports = Reports {
@@ -109,7 +109,7 @@ where
     match serve_reporting(
         rt, journal, plan, keys, settings, size, lines, reports, writer, errors,
     ) {
-        Ok(served) => reported_ended(settings.turns, served, false, errors),
+        Ok(served) => reported_ended(settings.turns, plan, served, false, errors),
         Err(failed) => Err(counted_fault_of(failed)),
     }
 }
@@ -131,7 +131,7 @@ where
     ensures served { OnOk result (HasServedReporting settings.turns None None (E.contents errors.new)) }
 {
     let keys = read_keys(rt, plan, path)?;
-    let lines = shared_lines(rt.alloc())?;
+    let lines = shared_lines(rt)?;
     let (rests, hop_lines) = watch_of(rt.alloc(), plan)?;
     let (journal, size, tally) = open_tallied(rt, file, plan, Some(&rests), &lines)?;
     let stop_flag = OnceLock::new();
@@ -149,7 +149,7 @@ where
     match serve_with_events(
         rt, journal, plan, keys, settings, size, lines, reports, events, errors,
     ) {
-        Ok(served) => reported_ended(settings.turns, served, output.has_failed(), errors),
+        Ok(served) => { reported_ended(settings.turns, plan, served, output.has_failed(), errors) }
         Err(failed) => Err(counted_fault_of(failed)),
     }
 }
@@ -196,9 +196,25 @@ fn counted_fault_of(failed: (ServeFault, CountedDisk<FileDisk>)) -> CommandFault
     fault_of((fault, disk.into_inner()))
 }
 
+/// The first worker of a plan that had no thread, peers before hops.
+fn unstarted_of<L: Link, T: Turn, K: Waker>(
+    plan: &Plan,
+    ended: &[Option<Ended<L, T, K>>],
+) -> Option<Worker> {
+    let place = ended.iter().position(|worker| worker.is_none())?;
+    let peers = plan.peer_count();
+    if place < peers {
+        let peer = u16::try_from(place).ok()?;
+        return Some(Worker::Receiver(PeerId(peer.saturating_add(1))));
+    }
+    let hop = u16::try_from(place - peers).ok()?;
+    Some(Worker::Sender(HopId(hop.saturating_add(1))))
+}
+
 /// Logs why a relay ended, or returns its fault.
 fn relay_ended<L: Link + Drop, T: Turn + Drop, K: Waker + Drop, E: Write>(
     turns: u64,
+    plan: &Plan,
     served: Served<Relayed<FileDisk, L, T, K>>,
     errors: &mut E,
 ) -> Result<(), CommandFault>
@@ -208,6 +224,7 @@ fn relay_ended<L: Link + Drop, T: Turn + Drop, K: Waker + Drop, E: Write>(
     let Served { end, fault } = served;
     match fault {
         None => report_end(turns, errors),
+        Some(ServeFault::Worker) => Err(CommandFault::NoThread(unstarted_of(plan, &end.ended))),
         Some(fault) => Err(fault_of((fault, end.finished.journal.into_disk()))),
     }
 }
@@ -222,6 +239,7 @@ fn reported_ended<
     E: Write,
 >(
     turns: u64,
+    plan: &Plan,
     served: Served<Reported<CountedDisk<FileDisk>, L, T, K, P, C>>,
     has_failed: bool,
     errors: &mut E,
@@ -235,6 +253,10 @@ fn reported_ended<
     let Served { end, fault } = served;
     match fault {
         None => outputs_ended(turns, end.into_end(), has_failed, errors),
+        Some(ServeFault::Worker) => {
+            let unstarted = unstarted_of(plan, &end.relayed.ended);
+            Err(CommandFault::NoThread(unstarted))
+        }
         Some(fault) => Err(counted_fault_of((fault, end.relayed.finished.journal.into_disk()))),
     }
 }
@@ -260,8 +282,8 @@ fn outputs_ended<E: Write>(
 }
 
 /// The log on standard error that the workers and the device share.
-fn shared_lines(alloc: Global) -> Result<Arc<ErrorLines, Global>, ServeFault> {
-    match ErrorLines::new_shared(alloc) {
+fn shared_lines<H: Host>(rt: &H) -> Result<Arc<ErrorLines, Global>, ServeFault> {
+    match ErrorLines::new_shared(rt.alloc(), LineForm::of(rt)) {
         Ok(lines) => Ok(lines),
         Err(refused) => Err(refused.into()),
     }

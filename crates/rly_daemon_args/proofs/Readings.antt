@@ -1,6 +1,6 @@
 -- Reading the matches of words.
 use Rattle.std.proofs.Common.{◌≡◌, ℕ, List, [], true, inl, inr, Option, Some, None, Result, Ok, Err, refl, subst, sym, ◌∙◌}
-use Rattle.std.specs.Prelude.{option_map, unwrap_or}
+use Rattle.std.specs.Prelude.{is_some, option_map, unwrap_or}
 use Rattle.std.specs.Str.Parse.{ParsesUnsigned}
 use Rattle.std.specs.declared.num.ParseIntError.{ParseIntError}
 use Rattle.clap.specs.Words.{App, FailsBy, HasKind, IsAmong, HasMatchesOf, is_simple_and_free, fault_of, kind_of, ReadsOne, Row, Text, app_of, one_of, one_text, rows_of, subcommand_of, subcommand_rows_of}
@@ -34,6 +34,11 @@ number_read gives parses f id n none value = rw (← one_text-rows f id) (go (on
 pub default_mapped : {X Y : Type 0} (f : X → Y) (o : Option X) (d : X) → f (unwrap_or o d) ≡ unwrap_or (option_map f o) (f d)
 default_mapped f None d = refl
 default_mapped f (Some x) d = refl
+
+-- whether there is one, after a map
+pub is_some_mapped : {X Y : Type 0} (f : X → Y) (o : Option X) → is_some o ≡ is_some (option_map f o)
+is_some_mapped f None = refl
+is_some_mapped f (Some x) = refl
 
 -- the settings of clap's matches are those of the words
 pub settings_found : (command : Command) (m : ArgMatches) (words : List Text) (s : Settings) → HasMatchesOf (app_of command) words m → app_of command ≡ rly_app

@@ -1,5 +1,5 @@
 -- The settings of a command line (docs/COMMANDS.md): those in clap's matches of its words.
-use Rattle.std.specs.Prelude.{◌≡◌, ◌≢◌, ⊤, ℕ, List, [], ◌∷◌, Bool, true, false, Option, Some, None, codes, unwrap_or}
+use Rattle.std.specs.Prelude.{◌≡◌, ◌≢◌, ⊤, ℕ, List, [], ◌∷◌, Bool, true, false, Option, Some, None, codes, if◌then◌else◌, is_some, option_map, unwrap_or}
 use Rattle.std.specs.Str.Parse.{ParsesUnsigned}
 use Rattle.std.specs.declared.num.ParseIntError.{ParseIntError}
 use Rattle.clap.specs.Words.{App, IsAmong, Kinds, ReadsOne, Row, Rule, Text, fault_of, first_of, kind_of, one_of}
@@ -37,6 +37,10 @@ flag_rule name = record (new_rule name) { long = Some name; action = Some SetTru
 abbrev pub path_rule : Text → Rule
 path_rule name = record (new_rule name) { action = Some Set; value_names = 1; required = true }
 
+-- an option with the path of a file
+abbrev pub file_rule : Text → Rule
+file_rule name = record (new_rule name) { long = Some name; action = Some Set; value_names = 1 }
+
 -- the number of lines per round, 1 to 64
 abbrev pub batch_rule : Rule
 batch_rule = record (option_rule (codes "batch") (codes "1")) { parser = Some (parser.Unsigned 1 64) }
@@ -57,36 +61,49 @@ destination_rule = record (number_rule (codes "destination")) { parser = Some (p
 abbrev pub limit_rule : Rule
 limit_rule = record (number_rule (codes "limit")) { parser = Some (parser.Unsigned 1 1099511627) }
 
--- a command with the options for the payload bytes of a spool, for CoDel and for the longest payload
-abbrev pub with_more_rules : App → App
-with_more_rules app = with_rule (with_rule (with_rule (with_rule (with_rule app
-    (option_rule (codes "bytes") (codes "1048576")))
-    (option_rule (codes "maxpacket") (codes "1500")))
-    (option_rule (codes "target") (codes "5000")))
-    (option_rule (codes "interval") (codes "100000")))
-    (option_rule (codes "payload") (codes "1200"))
-
--- a command with the options for all parameters of a spool
-abbrev pub with_param_rules : App → App
-with_param_rules app = with_more_rules (with_rule (with_rule (with_rule (with_rule app
+-- a command with the options for the sizes of a spool
+abbrev pub with_size_rules : App → App
+with_size_rules app = with_rule (with_rule (with_rule (with_rule (with_rule app
     (option_rule (codes "hops") (codes "4")))
     (option_rule (codes "peers") (codes "4")))
     (option_rule (codes "window") (codes "8")))
     (option_rule (codes "items") (codes "1024")))
+    (option_rule (codes "bytes") (codes "1048576"))
+
+-- a command with the options for CoDel, and one in which they have no default of the parser's
+abbrev pub with_codel_rules : App → App
+with_codel_rules app = with_rule (with_rule (with_rule app
+    (option_rule (codes "maxpacket") (codes "1500")))
+    (option_rule (codes "target") (codes "5000")))
+    (option_rule (codes "interval") (codes "100000"))
+
+abbrev pub with_bare_codel_rules : App → App
+with_bare_codel_rules app = with_rule (with_rule (with_rule app
+    (number_rule (codes "maxpacket"))) (number_rule (codes "target"))) (number_rule (codes "interval"))
+
+-- the longest payload
+abbrev pub payload_rule : Rule
+payload_rule = option_rule (codes "payload") (codes "1200")
+
+-- a command with the options for all parameters of a spool
+abbrev pub with_param_rules : App → App
+with_param_rules app = with_rule (with_codel_rules (with_size_rules app)) payload_rule
 
 unfoldable pub sim_app : App
 sim_app = with_param_rules (new_app (codes "sim"))
 
 unfoldable pub format_app : App
-format_app =
-    with_rule (with_rule (with_rule (with_param_rules (with_rule (new_app (codes "format")) (path_rule (codes "file"))))
-    (option_rule (codes "segments") (codes "4"))) (number_rule (codes "length"))) (flag_rule (codes "force"))
+format_app = with_rule (with_rule (with_rule (with_rule (with_rule (with_rule
+    (with_bare_codel_rules (with_size_rules (with_rule (new_app (codes "format")) (path_rule (codes "file"))))) payload_rule)
+    (option_rule (codes "segments") (codes "4"))) (number_rule (codes "length"))) (flag_rule (codes "force")))
+    (flag_rule (codes "keep-all"))) (flag_rule (codes "allocate"))
 
 unfoldable pub play_app : App
 play_app = with_rule (with_rule (new_app (codes "play")) (path_rule (codes "file"))) batch_rule
 
 unfoldable pub audit_app : App
-audit_app = with_rule (new_app (codes "audit")) (path_rule (codes "file"))
+audit_app = with_rule (with_rule (with_rule (new_app (codes "audit")) (path_rule (codes "file")))
+    (flag_rule (codes "made"))) (flag_rule (codes "copy"))
 
 unfoldable pub serve_app : App
 serve_app = with_rule (with_rule (with_rule (with_rule (with_rule (with_rule (new_app (codes "serve"))
@@ -99,7 +116,8 @@ unfoldable pub key_app : App
 key_app = new_app (codes "key")
 
 unfoldable pub plan_app : App
-plan_app = with_rule (with_rule (new_app (codes "plan")) (path_rule (codes "plan"))) at_rule
+plan_app = with_rule (with_rule (with_rule (new_app (codes "plan")) (path_rule (codes "plan"))) at_rule)
+    (file_rule (codes "device"))
 
 unfoldable pub put_app : App
 put_app = with_rule (with_rule (with_rule (with_rule (with_rule (new_app (codes "put")) (path_rule (codes "folder")))
@@ -159,20 +177,48 @@ pub record HasParams (rows : List Row) (params : Params) : Type 0 where
   pub interval : HasNumber rows (codes "interval") 100000 params.interval
   pub payload : HasNumber rows (codes "payload") 1200 params.payload
 
+-- a CoDel of these sizes that drops nothing that waited for less than two hours of open contact
+abbrev pub kept_all : Params → Params
+kept_all params = record params { maxpacket = 65535; target = 3600000000; interval = 3600000000 }
+
+-- an option without a default is given
+abbrev pub IsGiven : List Row → Text → Type 0
+IsGiven rows name = is_some (first_of name rows) ≡ true
+
+-- none of CoDel's options is given
+pub record HasNoCodel (rows : List Row) : Type 0 where
+  pub maxpacket : ¬ IsGiven rows (codes "maxpacket")
+  pub target : ¬ IsGiven rows (codes "target")
+  pub interval : ¬ IsGiven rows (codes "interval")
+
+-- the parameters in the options of `format`: those of the options, or with --keep-all those that keep all, beside which
+-- none of CoDel's options is given
+pub record HasKept (rows : List Row) (params : Params) : Type 0 where
+  pub options : Params
+  pub given : HasParams rows options
+  pub keeps : Bool
+  pub flag : HasFlag rows (codes "keep-all") keeps
+  pub kept : params ≡ (if keeps then kept_all options else options)
+  pub alone : keeps ≡ true → HasNoCodel rows
+
 -- the settings are those of the matched command, with its arguments
 abbrev pub IsSettings : Option (Text × List Row) → Settings → Type 0
 IsSettings None s = ⊥
 IsSettings (Some (command, rows)) (Sim params) = (command ≡ codes "sim") × HasParams rows params
-IsSettings (Some (command, rows)) (Format file params segments length force) = (command ≡ codes "format")
+IsSettings (Some (command, rows)) (Format file params segments length force allocate) = (command ≡ codes "format")
     × (file.now ≡ path_in (codes "file") rows)
-    × HasParams rows params
+    × HasKept rows params
     × HasNumber rows (codes "segments") 4 segments
     × ReadsNumber (one_of (codes "length") rows) length
     × HasFlag rows (codes "force") force
+    × HasFlag rows (codes "allocate") allocate
 IsSettings (Some (command, rows)) (Play file batch) = (command ≡ codes "play")
     × (file.now ≡ path_in (codes "file") rows)
     × HasNumber rows (codes "batch") 1 batch
-IsSettings (Some (command, rows)) (Audit file) = (command ≡ codes "audit") × (file.now ≡ path_in (codes "file") rows)
+IsSettings (Some (command, rows)) (Audit file made copy) = (command ≡ codes "audit")
+    × (file.now ≡ path_in (codes "file") rows)
+    × HasFlag rows (codes "made") made
+    × HasFlag rows (codes "copy") copy
 IsSettings (Some (command, rows)) (Serve file plan turns report gather events) = (command ≡ codes "serve")
     × (file.now ≡ path_in (codes "file") rows)
     × (plan.now ≡ path_in (codes "plan") rows)
@@ -181,9 +227,10 @@ IsSettings (Some (command, rows)) (Serve file plan turns report gather events) =
     × HasNumber rows (codes "gather") 0 gather
     × HasFlag rows (codes "events") events
 IsSettings (Some (command, rows)) Key = command ≡ codes "key"
-IsSettings (Some (command, rows)) (Plan plan at) = (command ≡ codes "plan")
+IsSettings (Some (command, rows)) (Plan plan at device) = (command ≡ codes "plan")
     × (plan.now ≡ path_in (codes "plan") rows)
     × ReadsNumber (one_of (codes "at") rows) at
+    × (option_map (λ s. s.now) device ≡ first_of (codes "device") rows)
 IsSettings (Some (command, rows)) (Put folder lines destination limit wait) = (command ≡ codes "put")
     × (folder.now ≡ path_in (codes "folder") rows)
     × HasFlag rows (codes "lines") lines

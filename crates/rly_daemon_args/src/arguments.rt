@@ -1,8 +1,9 @@
 ghost use Rattle.std.specs.Prelude.{◌≡◌, false};
 ghost use Rattle.clap.specs.Words.{App, Rule, rule_of, with_rule};
 ghost use Rattle.rly_daemon_args.specs.HelpersBuilt.{IsBuilt};
-ghost use Rattle.rly_daemon_args.specs.CommandLine.{at_rule, batch_rule, destination_rule, flag_rule, gather_rule};
-ghost use Rattle.rly_daemon_args.specs.CommandLine.{limit_rule, number_rule, option_rule, path_rule, with_more_rules, with_param_rules};
+ghost use Rattle.rly_daemon_args.specs.CommandLine.{at_rule, batch_rule, destination_rule, file_rule, flag_rule, gather_rule};
+ghost use Rattle.rly_daemon_args.specs.CommandLine.{limit_rule, number_rule, option_rule, path_rule, payload_rule};
+ghost use Rattle.rly_daemon_args.specs.CommandLine.{with_bare_codel_rules, with_codel_rules, with_param_rules, with_size_rules};
 
 use clap::{Arg, ArgAction, Command, value_parser};
 use rly_core::limits;
@@ -69,6 +70,18 @@ pub(crate) fn with_params<'a>(
 ) -> Result<Command<'a>, AllocError>
     ensures { (app : App) → IsBuilt app command.entry → IsBuilt (with_param_rules app) result }
 {
+    let with_sizes = with_sizes(alloc, command);
+    let with_codel = with_codel(alloc, with_sizes);
+    with_arg(with_codel, payload(alloc))
+}
+
+/// Adds the options for the sizes of a spool.
+pub(crate) fn with_sizes<'a>(
+    alloc: Global,
+    command: Result<Command<'a>, AllocError>,
+) -> Result<Command<'a>, AllocError>
+    ensures { (app : App) → IsBuilt app command.entry → IsBuilt (with_size_rules app) result }
+{
     let with_hops = with_option(alloc, command, "hops", "4", "Next hops, 1 to 64");
     let with_peers = with_option(
         alloc,
@@ -91,26 +104,25 @@ pub(crate) fn with_params<'a>(
         "1024",
         "Maximum live datagrams (waiting or in flight), 1 to 16384",
     );
-    with_more_params(alloc, with_items)
-}
-
-/// Adds the options for the payload bytes of a spool, for CoDel and for the longest payload.
-fn with_more_params<'a>(
-    alloc: Global,
-    command: Result<Command<'a>, AllocError>,
-) -> Result<Command<'a>, AllocError>
-    ensures { (app : App) → IsBuilt app command.entry → IsBuilt (with_more_rules app) result }
-{
-    let with_bytes = with_option(
+    with_option(
         alloc,
-        command,
+        with_items,
         "bytes",
         "1048576",
         "Maximum live payload bytes, 1 to 16777216",
-    );
+    )
+}
+
+/// Adds the options for CoDel.
+fn with_codel<'a>(
+    alloc: Global,
+    command: Result<Command<'a>, AllocError>,
+) -> Result<Command<'a>, AllocError>
+    ensures { (app : App) → IsBuilt app command.entry → IsBuilt (with_codel_rules app) result }
+{
     let with_maxpacket = with_option(
         alloc,
-        with_bytes,
+        command,
         "maxpacket",
         "1500",
         "CoDel drops nothing while at most this many payload bytes are queued behind a datagram, 0 to 65535",
@@ -122,16 +134,49 @@ fn with_more_params<'a>(
         "5000",
         "CoDel's target queueing delay in microseconds, 1 to the interval",
     );
-    let with_interval = with_option(
+    with_option(
         alloc,
         with_target,
         "interval",
         "100000",
         "CoDel's interval in microseconds, 1 to 3600000000",
-    );
-    with_option(
+    )
+}
+
+/// Adds the options for CoDel without a default of the parser, which would hide whether one is given.
+pub(crate) fn with_bare_codel<'a>(
+    alloc: Global,
+    command: Result<Command<'a>, AllocError>,
+) -> Result<Command<'a>, AllocError>
+    ensures { (app : App) → IsBuilt app command.entry → IsBuilt (with_bare_codel_rules app) result }
+{
+    let maxpacket = number(
         alloc,
-        with_interval,
+        "maxpacket",
+        "CoDel drops nothing while at most this many payload bytes are queued behind a datagram, 0 to 65535 [default: 1500]",
+    );
+    let with_maxpacket = with_arg(command, maxpacket);
+    let target = number(
+        alloc,
+        "target",
+        "CoDel's target queueing delay in microseconds, 1 to the interval [default: 5000]",
+    );
+    let with_target = with_arg(with_maxpacket, target);
+    let interval = number(
+        alloc,
+        "interval",
+        "CoDel's interval in microseconds, 1 to 3600000000 [default: 100000]",
+    );
+    with_arg(with_target, interval)
+}
+
+/// The option for the longest payload.
+pub(crate) fn payload<'a>(alloc: Global) -> Arg<'a>
+    ensures rule { rule_of result ≡ payload_rule }
+    ensures own { result.global ≡ false }
+{
+    option(
+        alloc,
         "payload",
         "1200",
         "Longest payload of a datagram in bytes, 1 to 8192",
@@ -157,6 +202,18 @@ fn path<'a>(alloc: Global, name: &'a str, value_name: &'a str, help: &'a str) ->
     Arg::new(alloc, name)
         .value_name(value_name)
         .required(true)
+        .action(ArgAction::Set)
+        .help(help)
+}
+
+/// An option with the path of a file.
+pub(crate) fn file_option<'a>(alloc: Global, name: &'a str, help: &'a str) -> Arg<'a>
+    ensures rule { rule_of result ≡ file_rule name.now }
+    ensures own { result.global ≡ false }
+{
+    Arg::new(alloc, name)
+        .long(name)
+        .value_name("FILE")
         .action(ArgAction::Set)
         .help(help)
 }

@@ -1,13 +1,14 @@
-ghost use Rattle.std.specs.Prelude.{◌≡◌, [], IfErr, IfOk, IfSome, OnOk, Some, map};
-ghost use Rattle.clap.specs.Words.{found_of, one_of, rows_of, subcommand_rows_of};
-ghost use Rattle.rly_daemon_args.specs.CommandLine.{HasFlag, HasNumber, HasParams, IsSettings, IsTrueFault};
-ghost use Rattle.rly_daemon_args.specs.CommandLine.{ReadsNumber, asked_of, kinds_at, path_in};
+ghost use Rattle.std.specs.Prelude.{◌≡◌, ◌≢◌, [], IfErr, IfOk, IfSome, None, OnOk, Some, is_some, map, option_map};
+ghost use Rattle.clap.specs.declared.error.kind.ErrorKind.TheVariants as kind;
+ghost use Rattle.clap.specs.Words.{first_of, found_of, one_of, rows_of, subcommand_rows_of};
+ghost use Rattle.rly_daemon_args.specs.CommandLine.{HasFlag, HasKept, HasNoCodel, HasNumber, HasParams, IsGiven};
+ghost use Rattle.rly_daemon_args.specs.CommandLine.{IsSettings, IsTrueFault, ReadsNumber, asked_of, kept_all, kinds_at, path_in};
 
 use crate::commands::program;
 use crate::given::{Settings, SettingsFault};
 use clap::error::ErrorKind;
 use clap::{ArgMatches, Command};
-use rly_core::Params;
+use rly_core::{Params, limits};
 use std::alloc::Global;
 use std::convert::AsStr;
 
@@ -27,8 +28,8 @@ const DEFAULT_REPORT: u64 = 0;
 const DEFAULT_GATHER: u64 = 0;
 
 /// Parses a command line, the program's name first. Faults are a value that is no `u64`, a batch, a moment, a wait of a
-/// round or a destination out of its limits, an unknown or a repeated option, and a missing command, file or folder; all
-/// other limits are checked later.
+/// round or a destination out of its limits, an unknown or a repeated option, `--keep-all` beside an option that it
+/// sets, and a missing command, file or folder; all other limits are checked later.
 pub fn settings<'a, S: AsStr>(alloc: Global, words: &'a [S]) -> Result<Settings<'a>, SettingsFault>
     // Each name, number and file is that of clap's matches, or the default.
     ensures asked { IfOk result (λ settings. IsSettings (asked_of (map S.text words.now)) settings) }
@@ -42,7 +43,8 @@ pub fn settings<'a, S: AsStr>(alloc: Global, words: &'a [S]) -> Result<Settings<
     match settings_of(&matches) {
         Some(settings) => Ok(settings),
         None => {
-            let error = command.error(ErrorKind::MissingSubcommand, "no command is given")?;
+            let (kind, reason) = fault_of(&matches);
+            let error = command.error(kind, reason)?;
             Err(SettingsFault::CommandLine(error))
         }
     }
@@ -60,10 +62,11 @@ fn settings_of<'a>(matches: &ArgMatches<'a>) -> Option<Settings<'a>>
     if let Some(options) = options_of(matches, "format") {
         return Some(Settings::Format {
             file: path_of(options, "file"),
-            params: params_of(options),
+            params: kept_params_of(options)?,
             segments: number_of(options, "segments", DEFAULT_SEGMENTS),
             length: given_number(options, "length"),
             force: has_flag(options, "force"),
+            allocate: has_flag(options, "allocate"),
         });
     }
     if let Some(options) = options_of(matches, "play") {
@@ -75,6 +78,8 @@ fn settings_of<'a>(matches: &ArgMatches<'a>) -> Option<Settings<'a>>
     if let Some(options) = options_of(matches, "audit") {
         return Some(Settings::Audit {
             file: path_of(options, "file"),
+            made: has_flag(options, "made"),
+            copy: has_flag(options, "copy"),
         });
     }
     if options_of(matches, "key").is_some() {
@@ -84,6 +89,7 @@ fn settings_of<'a>(matches: &ArgMatches<'a>) -> Option<Settings<'a>>
         return Some(Settings::Plan {
             plan: path_of(options, "plan"),
             at: given_number(options, "at"),
+            device: given_path(options, "device"),
         });
     }
     if let Some(settings) = folder_settings_of(matches) {
@@ -157,6 +163,83 @@ fn has_flag(options: &ArgMatches<'_>, name: &str) -> bool
     ensures { HasFlag (rows_of (found_of options.now)) name.now result }
 {
     options.get_flag(name)
+}
+
+/// The reason why the words give no settings: no command, or options that can't be given together.
+fn fault_of(matches: &ArgMatches<'_>) -> (ErrorKind, &'static str)
+    ensures { result.0 ≢ kind.DisplayHelp × result.0 ≢ kind.DisplayVersion }
+{
+    match options_of(matches, "format").and_then(codel_option_of) {
+        Some(option) => (ErrorKind::ArgumentConflict, clash_text(option)),
+        None => (ErrorKind::MissingSubcommand, "no command is given"),
+    }
+}
+
+/// The reason why `--keep-all` can't be given with an option.
+fn clash_text(option: &str) -> &'static str {
+    match option {
+        "maxpacket" => "--keep-all sets --maxpacket to 65535: leave one of the two out",
+        "target" => "--keep-all sets --target to 3600000000: leave one of the two out",
+        _ => "--keep-all sets --interval to 3600000000: leave one of the two out",
+    }
+}
+
+/// The parameters in the options of `format`. With `--keep-all` CoDel drops nothing for two hours, and none of its
+/// options may be given.
+fn kept_params_of(options: &ArgMatches<'_>) -> Option<Params>
+    ensures { IfSome result (λ params. HasKept (rows_of (found_of options.now)) params) }
+{
+    let params = params_of(options);
+    if !has_flag(options, "keep-all") {
+        return Some(params);
+    }
+    match codel_option_of(options) {
+        Some(_) => None,
+        None => Some(kept_all(&params)),
+    }
+}
+
+/// The first of CoDel's options that is given.
+fn codel_option_of(options: &ArgMatches<'_>) -> Option<&'static str>
+    ensures none { result ≡ None → HasNoCodel (rows_of (found_of options.now)) }
+    ensures some { IfSome result (λ name. IsGiven (rows_of (found_of options.now)) name.now) }
+{
+    if is_given(options, "maxpacket") {
+        return Some("maxpacket");
+    }
+    if is_given(options, "target") {
+        return Some("target");
+    }
+    if is_given(options, "interval") {
+        return Some("interval");
+    }
+    None
+}
+
+/// Whether an option without a default is given.
+fn is_given(options: &ArgMatches<'_>, name: &str) -> bool
+    ensures { result ≡ is_some (first_of name.now (rows_of (found_of options.now))) }
+{
+    options.get_str(name).is_some()
+}
+
+/// The path of an option.
+fn given_path<'a>(options: &ArgMatches<'a>, name: &str) -> Option<&'a str>
+    ensures { option_map (λ s. s.now) result ≡ first_of name.now (rows_of (found_of options.now)) }
+{
+    options.get_str(name)
+}
+
+/// The same sizes, and a CoDel that drops nothing that waited for less than two hours of open contact.
+fn kept_all(params: &Params) -> Params
+    ensures { result ≡ kept_all params.now }
+{
+    Params {
+        maxpacket: limits::MAX_MAXPACKET,
+        target: limits::MAX_INTERVAL,
+        interval: limits::MAX_INTERVAL,
+        ..*params
+    }
 }
 
 /// The parameters in the options.

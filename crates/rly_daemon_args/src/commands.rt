@@ -5,8 +5,8 @@ ghost use Rattle.rly_daemon_args.specs.CommandLine.{audit_app, format_app, get_a
 ghost use Rattle.rly_daemon_args.specs.CommandLine.{put_app, rly_app, rly_top, serve_app, sim_app};
 
 use crate::arguments::{
-    at, batch, destination, flag, gather, limit, number, with_arg, with_option, with_params,
-    with_path,
+    at, batch, destination, file_option, flag, gather, limit, number, payload, with_arg,
+    with_bare_codel, with_option, with_params, with_path, with_sizes,
 };
 use clap::Command;
 use std::alloc::{AllocError, Global};
@@ -30,13 +30,16 @@ unit: a pick expires datagrams at the front of the queue that waited longer. 0 o
 const FORMATTED: &str =
     "Prints `formatted` and the size of the device in bytes: a 64-byte header plus the segments.
 The file's content is lost; a device with live datagrams is refused without `--force`.
+`--keep-all` is for relays of links that are closed most of the time: CoDel drops nothing that waited for
+less than two hours of open contact. Without it CoDel keeps the queues of links that are always open short.
 Values out of their limits are refused (`refused 21 badgeometry`) before the file is touched.";
 
 /// Notes in the help of `audit`.
 const AUDITED: &str =
     "Prints a line for each hop, one for each peer, the count of accepted commands, and `balance ok`:
 for each hop, taken = queued + in flight + dropped + expired + released, and the last numbers of all
-peers add up to the datagrams taken. Opens the file for writing to lock it, but writes nothing.";
+peers add up to the datagrams taken. Opens the file for writing to lock it, but writes nothing; with
+`--copy` opens it for reading alone. `--made` prints one line: each option that `format` was given, or its default.";
 
 /// Notes in the help of `serve`.
 const SERVED: &str =
@@ -136,10 +139,12 @@ fn format<'a>(alloc: Global) -> Result<Command<'a>, AllocError>
         "FILE",
         "The file of the device; created if missing, never shortened",
     );
-    let with_options = with_params(alloc, with_file);
+    let with_sizes = with_sizes(alloc, with_file);
+    let with_codel = with_bare_codel(alloc, with_sizes);
+    let with_payload = with_arg(with_codel, payload(alloc));
     let with_segments = with_option(
         alloc,
-        with_options,
+        with_payload,
         "segments",
         "4",
         "Segments of the device, 2 to 256",
@@ -155,7 +160,19 @@ fn format<'a>(alloc: Global) -> Result<Command<'a>, AllocError>
         "force",
         "Format even if datagrams are live; they are lost",
     );
-    with_arg(with_length, force)
+    let with_force = with_arg(with_length, force);
+    let keep_all = flag(
+        alloc,
+        "keep-all",
+        "Keep what waits: --target and --interval 3600000000, --maxpacket 65535; without these options",
+    );
+    let with_keep_all = with_arg(with_force, keep_all);
+    let allocate = flag(
+        alloc,
+        "allocate",
+        "Take the device's room on its disk, by zeros over all of it; slow if it is large",
+    );
+    with_arg(with_keep_all, allocate)
 }
 
 fn play<'a>(alloc: Global) -> Result<Command<'a>, AllocError>
@@ -180,7 +197,19 @@ fn audit<'a>(alloc: Global) -> Result<Command<'a>, AllocError>
         "Reports the content of the device in a file, without changing it",
         AUDITED,
     );
-    with_path(alloc, Ok(bare), "file", "FILE", MADE)
+    let with_file = with_path(alloc, Ok(bare), "file", "FILE", MADE);
+    let made = flag(
+        alloc,
+        "made",
+        "Print one line with what the device was made with, and nothing else",
+    );
+    let with_made = with_arg(with_file, made);
+    let copy = flag(
+        alloc,
+        "copy",
+        "The file is a copy: read it without a lock and without write permission",
+    );
+    with_arg(with_made, copy)
 }
 
 fn serve<'a>(alloc: Global) -> Result<Command<'a>, AllocError>
@@ -233,7 +262,13 @@ fn plan<'a>(alloc: Global) -> Result<Command<'a>, AllocError>
         PLANNED,
     );
     let with_file = with_path(alloc, Ok(bare), "plan", "PLAN", PLAN);
-    with_arg(with_file, at(alloc))
+    let with_at = with_arg(with_file, at(alloc));
+    let device = file_option(
+        alloc,
+        "device",
+        "Say on standard error what CoDel of this device does at each hop with contacts",
+    );
+    with_arg(with_at, device)
 }
 
 fn put<'a>(alloc: Global) -> Result<Command<'a>, AllocError>

@@ -15,7 +15,7 @@ pub enum Settings<'a> {
     Format {
         /// The path of the file.
         file: &'a str,
-        /// The parameters of the spool.
+        /// The parameters of the spool; with `--keep-all` those of a CoDel that drops nothing for two hours.
         params: Params,
         /// Segments of the device.
         segments: u64,
@@ -23,6 +23,8 @@ pub enum Settings<'a> {
         length: Option<u64>,
         /// Whether live datagrams on the device may be lost.
         force: bool,
+        /// Whether the device's room on its disk is taken first.
+        allocate: bool,
     },
     /// Commands from standard input on the device in a file.
     Play {
@@ -35,6 +37,10 @@ pub enum Settings<'a> {
     Audit {
         /// The path of the file.
         file: &'a str,
+        /// Whether only the line of what the device was made with is printed.
+        made: bool,
+        /// Whether the file is a copy, which is read without a lock.
+        copy: bool,
     },
     /// A relay between the neighbours of a plan, on the device in a file.
     Serve {
@@ -59,6 +65,8 @@ pub enum Settings<'a> {
         plan: &'a str,
         /// The moment in microseconds since the Unix epoch, below 2^52: `None` for now.
         at: Option<u64>,
+        /// The path of the device whose CoDel is told for each hop: `None` for none.
+        device: Option<&'a str>,
     },
     /// Standard input is put into the folder of a peer.
     Put {

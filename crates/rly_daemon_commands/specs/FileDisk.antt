@@ -1,5 +1,5 @@
 -- The model of a disk over a file.
-use Rattle.std.specs.Prelude.{◌≤◌, ℕ, [], Option, Some, None, Result, Ok, Err}
+use Rattle.std.specs.Prelude.{◌≤◌, ℕ, Bool, [], Option, Some, None, is_some, Result, Ok, Err}
 use Rattle.std.specs.IoError.{error_kind}
 use Rattle.std.specs.declared.io.Error.{Error}
 use Rattle.rly_disk.specs.DiskModel.{Consistent, DiskState}
@@ -22,6 +22,10 @@ file_state disk = record {
   syncs = disk.counts.syncs;
   failed_reads = disk.counts.failed_reads;
 }
+
+-- the file is locked: that of a copy isn't
+abbrev pub is_locked : FileDisk → Bool
+is_locked disk = is_some disk.lock
 
 -- the fault of a system error, if there is one
 abbrev pub fault_of : Option SystemWord → Option FileFault

@@ -2,4 +2,5 @@ pub mod FileDisk
 pub mod FormatCommand
 pub mod NewKey
 pub mod PlanCommand
+pub mod OptionFaults
 pub mod Commands

@@ -1,6 +1,7 @@
 use crate::new_key::NewKeyFault;
 use rly_core::Refusal;
 use rly_daemon_lines::TextFault;
+use rly_link::Worker;
 use rly_station::{Cause, FileFault, ServeFault};
 use thiserror::Error;
 
@@ -13,6 +14,9 @@ pub enum CommandFault {
     /// The relay wasn't started, or didn't end well.
     #[error("{0}")]
     Serve(ServeFault),
+    /// There was no thread for this worker, or for the reports or the events.
+    #[error("rly: worker failed")]
+    NoThread(Option<Worker>),
     /// No new key was written.
     #[error("{0}")]
     NewKey(NewKeyFault),

@@ -1,15 +1,17 @@
 //! The commands that make, play and audit a device in a file, and `sim`, which needs none.
 
-ghost use Rattle.std.specs.Prelude.{◌≡◌, ◌↔◌, Err, IfErr, IfOk, IfSome, IsErr, OnOk, false};
+ghost use Rattle.std.specs.Prelude.{◌≡◌, ◌↔◌, ◌≤◌, Err, IfErr, IfOk, IfSome, IsErr, OnOk, false, not};
 ghost use Rattle.std.specs.Io.KnownBytes.{Appends, Keeps};
 ghost use Rattle.rly_core.specs.Limits.{IsWithinLimits};
 ghost use Rattle.rly_core.specs.declared.refusal.Refusal.{Refusal as ARefusal};
+ghost use Rattle.rly_audit.specs.Audit.{IsReported};
+ghost use Rattle.rly_audit.specs.Made.{IsMadeTold};
 ghost use Rattle.rly_machine.specs.State.{new_state};
 ghost use Rattle.rly_journal.specs.Faults.{opening_refusal};
 ghost use Rattle.rly_journal.specs.declared.open_fault.OpenFault.{OpenFault};
 ghost use Rattle.rly_segment.specs.Device.{IsLayout, device_length};
-ghost use Rattle.rly_daemon_commands.specs.Commands.{HasFormatted, HasPlayed, HasReport, size_line};
-ghost use Rattle.rly_daemon_commands.specs.FileDisk.{file_state, first_fault};
+ghost use Rattle.rly_daemon_commands.specs.Commands.{HasAudited, HasFormatted, HasPlayed, size_line};
+ghost use Rattle.rly_daemon_commands.specs.FileDisk.{file_state, first_fault, is_locked};
 ghost use Rattle.rly_daemon_commands.specs.FormatCommand.{FindsNoneLive, HasMade, wanted_geometry};
 ghost use Rattle.rly_station.specs.Faults.{device_cause};
 ghost use Rattle.rly_station.specs.declared.file_fault.Cause.{Cause as ACause};
@@ -19,12 +21,12 @@ use crate::command_fault::CommandFault;
 use crate::file_disk::FileDisk;
 use crate::format_check::{UseFault, check_unused};
 use crate::geometry::{device_size, geometry_of};
-use rly_audit::{AuditFault, audit};
+use rly_audit::{AuditFault, audit, audit_made};
 use rly_core::{Geometry, Params, Refusal};
 use rly_daemon_lines::{TextFault, play, sim};
 use rly_journal::Journal;
 use rly_segment::{FormatFault, format};
-use rly_station::Cause;
+use rly_station::{Cause, FileFault};
 use std::alloc::Global;
 use std::fs::{File, Files};
 use std::io::{Read, Write};
@@ -53,7 +55,8 @@ pub fn run_sim<R: Read, W: Write>(
 }
 
 /// Makes a new device in a file, and prints its size in bytes. Values out of their limits are refused before any
-/// file is touched. Without `force` a device with live datagrams is left unchanged.
+/// file is touched. Without `force` a device with live datagrams is left unchanged. With `allocate` the device's room on its
+/// disk is taken first.
 pub fn run_format<H: AllocGlobal + Files<File = File>, W: Write>(
     rt: &H,
     file: &str,
@@ -61,6 +64,7 @@ pub fn run_format<H: AllocGlobal + Files<File = File>, W: Write>(
     segments: u64,
     length: Option<u64>,
     force: bool,
+    allocate: bool,
     writer: &mut W,
 ) -> Result<(), CommandFault>
     ensures formatted { OnOk result
@@ -70,7 +74,7 @@ pub fn run_format<H: AllocGlobal + Files<File = File>, W: Write>(
         → (result ≡ Err (CommandFault.Refused Refusal.BadGeometry Cause.Options)) × (writer.new ≡ writer.old) }
 {
     let geometry = requested_geometry(params, segments, length)?;
-    let size = format_file(rt, file, &geometry, force)?;
+    let size = format_file(rt, file, &geometry, force, allocate)?;
     print_size(size, writer)?;
     Ok(())
 }
@@ -99,6 +103,7 @@ fn format_file<H: AllocGlobal + Files<File = File>>(
     file: &str,
     geometry: &Geometry,
     force: bool,
+    allocate: bool,
 ) -> Result<u64, CommandFault>
     requires { IsLayout geometry.now (device_length geometry.now) }
     ensures size { IfOk result (λ size. size ≡ device_length geometry.now) }
@@ -107,13 +112,31 @@ fn format_file<H: AllocGlobal + Files<File = File>>(
     let size = device_size(geometry);
     let disk = FileDisk::make(rt, file)?;
     let mut disk = free_disk(rt.alloc(), disk, force)?;
-    disk.extend(size)?;
+    make_room(rt.alloc(), file, &mut disk, size, allocate)?;
     match format(rt.alloc(), &mut disk, geometry) {
         Ok(()) => Ok(size),
         Err(FormatFault::OutOfMemory) => Err(refusal_with_cause(Refusal::OutOfMemory, &disk)),
         Err(FormatFault::BadGeometry) => Err(refusal_with_cause(Refusal::BadGeometry, &disk)),
         Err(FormatFault::Device) => Err(refusal_with_cause(Refusal::Device, &disk)),
     }
+}
+
+/// Extends the file of a device to its size, if it is shorter, and takes its room on the disk with `allocate`.
+fn make_room(
+    alloc: Global,
+    file: &str,
+    disk: &mut FileDisk,
+    size: u64,
+    allocate: bool,
+) -> Result<(), FileFault>
+    ensures size { OnOk result (size ≤ (file_state disk.new).size) }
+    ensures same { disk.new ≡ record disk.old { size = disk.new.size } }
+{
+    disk.extend(size)?;
+    if allocate {
+        disk.take_room(alloc, file, size)?;
+    }
+    Ok(())
 }
 
 /// A disk without live datagrams, or any if `force` is set.
@@ -161,18 +184,66 @@ pub fn run_play<H: AllocGlobal + Files<File = File>, R: Read, W: Write>(
     Ok(())
 }
 
-/// Writes the report on the device in a file, which is only read.
+/// Writes the report on the device in a file, which is only read; with `made` the line of what it was made with, and
+/// nothing else. The file of a copy isn't locked.
 pub fn run_audit<H: AllocGlobal + Files<File = File>, W: Write>(
     rt: &H,
     file: &str,
+    made: bool,
+    copy: bool,
     writer: &mut W,
 ) -> Result<(), CommandFault>
-    ensures reported { OnOk result (HasReport (W.contents writer.old) (W.contents writer.new)) }
+    ensures reported { OnOk result (HasAudited made copy (W.contents writer.old) (W.contents writer.new)) }
     ensures silent { IfErr result (λ fault. (refusal : ARefusal) (cause : ACause)
         → fault ≡ CommandFault.Refused refusal cause → Keeps (W.contents writer.old) (W.contents writer.new)) }
 {
-    let disk = FileDisk::open(rt, file)?;
-    match audit(rt.alloc(), disk, writer) {
+    let disk = audited_disk(rt, file, copy)?;
+    if made {
+        tell_made(rt.alloc(), disk, writer)
+    } else {
+        report_disk(rt.alloc(), disk, writer)
+    }
+}
+
+/// Opens the device in a file, or a copy of one.
+fn audited_disk<H: Files<File = File>>(
+    files: &H,
+    file: &str,
+    copy: bool,
+) -> Result<FileDisk, FileFault>
+    ensures lock { IfOk result (λ disk. is_locked disk ≡ not copy) }
+{
+    if copy {
+        FileDisk::open_copy(files, file)
+    } else {
+        FileDisk::open(files, file)
+    }
+}
+
+/// Writes the line of what a device was made with.
+fn tell_made<W: Write>(alloc: Global, disk: FileDisk, writer: &mut W) -> Result<(), CommandFault>
+    ensures told { OnOk result (IsMadeTold (file_state disk) (W.contents writer.old) (W.contents writer.new)) }
+    ensures silent { IfErr result (λ fault. (refusal : ARefusal) (cause : ACause)
+        → fault ≡ CommandFault.Refused refusal cause → Keeps (W.contents writer.old) (W.contents writer.new)) }
+{
+    let mut disk = disk;
+    match audit_made(alloc, &mut disk, writer) {
+        Ok(()) => {
+            writer.flush().map_err(|_| TextFault::Output)?;
+            Ok(())
+        }
+        Err(AuditFault::Refused(refusal)) => Err(refusal_with_cause(refusal, &disk)),
+        Err(AuditFault::Output) => Err(CommandFault::Text(TextFault::Output)),
+    }
+}
+
+/// Writes the report on a device.
+fn report_disk<W: Write>(alloc: Global, disk: FileDisk, writer: &mut W) -> Result<(), CommandFault>
+    ensures reported { OnOk result (IsReported (file_state disk) (W.contents writer.old) (W.contents writer.new)) }
+    ensures silent { IfErr result (λ fault. (refusal : ARefusal) (cause : ACause)
+        → fault ≡ CommandFault.Refused refusal cause → Keeps (W.contents writer.old) (W.contents writer.new)) }
+{
+    match audit(alloc, disk, writer) {
         Ok(_disk) => {
             writer.flush().map_err(|_| TextFault::Output)?;
             Ok(())

@@ -1,16 +1,18 @@
-ghost use Rattle.std.specs.Prelude.{◌≡◌, ◌≤◌, ◌+◌, ◌↔◌, None, IfOk, OnOk};
+ghost use Rattle.std.specs.Prelude.{◌≡◌, ◌≤◌, ◌+◌, ◌↔◌, None, IfOk, OnOk, false, is_some, true};
 
+use crate::allocation;
 use rly_disk::{Counts, Disk, DiskFault};
 use rly_station::{ErrorLines, FailedCalls, FileFault, SystemWord};
 use std::alloc::Global;
-use std::fs::{File, Files, OpenOptions, TryLockError};
-use std::io;
+use std::fs::{File, FileType, Files, OpenOptions, TryLockError};
 use std::io::{ErrorKind, Seek, SeekFrom};
 use std::os::fd::AsRawFd;
-use std::os::unix::fs::FileExt;
+use std::os::unix::fs::{FileExt, FileTypeExt};
 use std::sync::Arc;
+use std::{fs, io};
 
-/// A device in a file, locked (advisory) against other processes while it is open. The file may be a block device.
+/// A device in a file, locked (advisory) against other processes while it is open, unless it was opened as a copy. The
+/// file may be a block device.
 ///
 /// Nothing can be proved of a real file's bytes, so this disk is never honest: its contracts cover its size, its
 /// ranges and its counts. The disk model of bytes and crashes holds of it as far as the system keeps the promises
@@ -18,6 +20,8 @@ use std::sync::Arc;
 #[derive(Drop)]
 pub struct FileDisk {
     file: File,
+    /// The lock on the file: none on a copy, which is only read.
+    lock: Option<FileLock>,
     size: u64,
     counts: Counts,
     /// The system's error of the first failed call.
@@ -27,22 +31,39 @@ pub struct FileDisk {
     ghost word_is_told: { (word ≡ None) ↔ (counts.failures ≡ 0) },
 }
 
+/// The lock on a file, which the system takes back when the file is closed. Only `lock` makes one.
+#[derive(Clone, Copy)]
+struct FileLock;
+
 impl FileDisk {
-    ghost use Rattle.rly_daemon_commands.specs.FileDisk.{file_state, first_fault, kept_word, one_if_failed};
+    ghost use Rattle.rly_daemon_commands.specs.FileDisk.{file_state, first_fault, is_locked, kept_word, one_if_failed};
     ghost use Rattle.rly_station.specs.Warnings.{AreReadsLogged};
 
     /// Opens the device in a file. Syncs the writes of earlier processes first, or returns an error; reads from
     /// then on return the disk's bytes, not those of the page cache.
     pub fn open<H: Files<File = File>>(files: &H, path: &str) -> Result<FileDisk, FileFault>
         ensures calls { IfOk result (λ disk. (file_state disk).calls ≡ 0) }
+        ensures lock { IfOk result (λ disk. is_locked disk ≡ true) }
     {
+        refuse_special(files, path)?;
         prepare_file(OpenOptions::new().read(true).write(true).open(files, path)?)
+    }
+
+    /// Opens the copy of a device in a file, to read it: without a lock, and without permission to write.
+    pub fn open_copy<H: Files<File = File>>(files: &H, path: &str) -> Result<FileDisk, FileFault>
+        ensures calls { IfOk result (λ disk. (file_state disk).calls ≡ 0) }
+        ensures lock { IfOk result (λ disk. is_locked disk ≡ false) }
+    {
+        refuse_special(files, path)?;
+        let file = OpenOptions::new().read(true).open(files, path)?;
+        disk_in(file.try_clone()?, None)
     }
 
     /// The same, and creates the file if there is none.
     pub fn make<H: Files<File = File>>(files: &H, path: &str) -> Result<FileDisk, FileFault>
         ensures calls { IfOk result (λ disk. (file_state disk).calls ≡ 0) }
     {
+        refuse_special(files, path)?;
         let opened = OpenOptions::new().read(true).write(true).open(files, path);
         match opened {
             Ok(file) => prepare_file(file),
@@ -73,6 +94,13 @@ impl FileDisk {
         Ok(())
     }
 
+    /// Takes the room of a device of this size on its disk, by zeros over all of it, durably. Nothing is left of what the file
+    /// held there.
+    pub(crate) fn take_room(&self, alloc: Global, path: &str, size: u64) -> Result<(), FileFault> {
+        allocation::take_room(alloc, &self.file, path, size)?;
+        Ok(())
+    }
+
     /// The system's error of the first failed call.
     pub fn fault(&self) -> Option<FileFault>
         ensures first { result ≡ first_fault self.now }
@@ -94,6 +122,22 @@ impl FileDisk {
             self.word = Some(SystemWord(*error));
         }
     }
+}
+
+/// Refuses what can be no device at a path, such as a pipe: its opening could wait for ever.
+fn refuse_special<H: Files<File = File>>(files: &H, path: &str) -> Result<(), FileFault> {
+    match fs::metadata(files, path) {
+        Ok(found) if is_special(found.file_type()) => {
+            let special = io::Error::new(ErrorKind::InvalidInput, "not a file or a block device");
+            Err(FileFault::from(special))
+        }
+        Ok(_) | Err(_) => Ok(()),
+    }
+}
+
+/// Whether something is a pipe, a socket or a character device. A folder is refused by its opening or its first read.
+fn is_special(kind: FileType) -> bool {
+    kind.is_fifo() || kind.is_socket() || kind.is_char_device()
 }
 
 /// Creates a file, durably.
@@ -123,16 +167,27 @@ fn folder_of(path: &str) -> &str {
 /// page cache may have bytes that the disk doesn't have, and a later sync may succeed over them.
 fn prepare_file(file: File) -> Result<FileDisk, FileFault>
     ensures calls { IfOk result (λ disk. disk.counts.calls ≡ 0) }
+    ensures lock { IfOk result (λ disk. is_some disk.lock ≡ true) }
 {
     // If a standard stream is closed, the file may have got its descriptor, and output for that stream would go
     // into the device. A clone never gets such a descriptor.
-    let mut file = file.try_clone()?;
-    lock(&file)?;
+    let file = file.try_clone()?;
+    let lock = lock(&file)?;
     file.sync_all()?;
     forget(&file)?;
+    disk_in(file, Some(lock))
+}
+
+/// The disk in an open file, of which no call was made yet.
+fn disk_in(file: File, lock: Option<FileLock>) -> Result<FileDisk, FileFault>
+    ensures calls { IfOk result (λ disk. disk.counts.calls ≡ 0) }
+    ensures lock { IfOk result (λ disk. disk.lock ≡ lock) }
+{
+    let mut file = file;
     let size = file.seek(SeekFrom::End(0))?;
     Ok(FileDisk {
         file,
+        lock,
         size,
         counts: Counts::new(),
         word: None,
@@ -141,9 +196,9 @@ fn prepare_file(file: File) -> Result<FileDisk, FileFault>
 }
 
 /// Locks a file (advisory) against other processes.
-fn lock(file: &File) -> Result<(), FileFault> {
+fn lock(file: &File) -> Result<FileLock, FileFault> {
     match file.try_lock() {
-        Ok(()) => Ok(()),
+        Ok(()) => Ok(FileLock),
         Err(TryLockError::WouldBlock) => {
             let held = io::Error::new(ErrorKind::WouldBlock, "locked by another process");
             Err(FileFault::of_lock(held))

@@ -1,16 +1,19 @@
 //! The commands of `rly` that start no relay: `sim`, `format`, `play`, `audit`, `plan` and `key`.
 //! `specs/Commands.antt`, `PlanCommand.antt` and `NewKey.antt` define the result of each that
-//! succeeds, `specs/FormatCommand.antt` the check before a device is formatted. `FileDisk` is a
-//! device in a file, locked while open. The crate starts no thread and opens no socket. Caller:
+//! succeeds, `specs/FormatCommand.antt` the check before a device is formatted, and
+//! `specs/OptionFaults.antt` the first option out of its limits. `FileDisk` is a device in a file,
+//! locked while open unless it is a copy. The crate starts no thread and opens no socket. Caller:
 //! `rly_daemon`.
 #![tactic(auto)]
 
+mod allocation;
 mod command_fault;
 mod commands;
 mod file_disk;
 mod format_check;
 mod geometry;
 mod new_key;
+mod option_fault;
 mod plan_command;
 
 pub use crate::command_fault::CommandFault;
@@ -20,4 +23,5 @@ pub use crate::commands::{
 pub use crate::file_disk::FileDisk;
 pub use crate::format_check::{UseFault, check_unused};
 pub use crate::new_key::{NewKeyFault, write_key};
+pub use crate::option_fault::{OptionFault, OptionName, format_fault, params_fault};
 pub use crate::plan_command::run_plan;

@@ -1,44 +1,118 @@
 //! `rly plan`: prints a plan with the state of its links.
 
-ghost use Rattle.std.specs.Prelude.{◌≡◌, ◌<◌, IfErr, IfSome, OnOk, min, ◌-◌};
+ghost use Rattle.std.specs.Prelude.{◌≡◌, ◌<◌, IfErr, IfOk, IfSome, OnOk, is_some, min, string_bytes, ◌-◌};
+ghost use Rattle.std.specs.Io.KnownBytes.{Appends};
 ghost use Rattle.rly_core.specs.declared.limits.TheConstants.{MOMENT_LIMIT};
 ghost use Rattle.rly_core.specs.declared.refusal.Refusal.{Refusal as ARefusal};
-ghost use Rattle.rly_daemon_commands.specs.PlanCommand.{HasShownPlan, planned_moment};
+ghost use Rattle.rly_daemon_commands.specs.PlanCommand.{HasShownPlan, IsCodelOfDevice, IsCodelText, planned_moment};
+ghost use Rattle.rly_plan_show.specs.PlanText.{text_for_plan};
+ghost use Rattle.rly_plan_show.specs.PlanWarnings.{plan_warnings, warning_lines};
 ghost use Rattle.rly_station.specs.declared.serve_fault.ServeFault.{ServeFault as AServeFault};
 
 use crate::command_fault::CommandFault;
+use crate::commands::refusal_with_cause;
+use crate::file_disk::FileDisk;
+use rly_core::Refusal;
 use rly_core::limits::MOMENT_LIMIT;
 use rly_daemon_lines::TextFault;
-use rly_plan_show::text_of;
+use rly_plan::Plan;
+use rly_plan_show::{codel_text_of, lines_of, text_of, warnings_of};
+use rly_segment::{HeaderFault, read_header};
 use rly_station::{moment_of, read_keys, read_plan};
+use std::alloc::{AllocError, Global};
 use std::fs::{File, Files};
 use std::io::Write;
 use std::time::Clock;
 
-/// Prints a plan at a moment, or now. A plan or a key that `serve` would refuse is refused before anything is
-/// printed.
-pub fn run_plan<H: AllocGlobal + Files<File = File> + Clock, W: Write>(
+/// Prints a plan at a moment, or now, and then to `errors` its warnings, and what CoDel of a device does at its hops, if a
+/// device is given. A plan, a key or a device that `serve` would refuse is refused before anything is printed.
+pub fn run_plan<H: AllocGlobal + Files<File = File> + Clock, W: Write, E: Write>(
     rt: &H,
     path: &str,
     at: Option<u64>,
+    device: Option<&str>,
     writer: &mut W,
+    errors: &mut E,
 ) -> Result<(), CommandFault>
-    ensures told { OnOk result (HasShownPlan at (W.contents writer.old) (W.contents writer.new)) }
-    ensures silent { IfErr result
-        (λ fault. (cause : AServeFault) → fault ≡ CommandFault.Serve cause → writer.new ≡ writer.old) }
+    ensures told { OnOk result (HasShownPlan at (is_some device.entry) (W.contents writer.old) (W.contents writer.new)
+        (E.contents errors.old) (E.contents errors.new)) }
+    ensures silent { IfErr result (λ fault. (cause : AServeFault) → fault ≡ CommandFault.Serve cause
+        → (writer.new ≡ writer.old) × (errors.new ≡ errors.old)) }
 {
     let plan = read_plan(rt, path)?;
     let _keys = read_keys(rt, &plan, path)?;
     let moment = moment_at(rt, at);
-    let text = match text_of(rt.alloc(), &plan, moment) {
-        Ok(text) => text,
+    let (text, mut lines) = match texts_of(rt.alloc(), &plan, moment) {
+        Ok(texts) => texts,
         Err(refused) => return Err(CommandFault::Serve(refused.into())),
     };
+    let codel = codel_of(rt, &plan, device)?;
+    if let Err(refused) = lines.push_str(codel.as_str()) {
+        return Err(CommandFault::Serve(refused.into()));
+    }
+    put(writer, text.as_str())?;
+    put(errors, lines.as_str())?;
+    Ok(())
+}
+
+/// The text of a plan at a moment, and the lines of its warnings.
+fn texts_of(alloc: Global, plan: &Plan, moment: u64) -> Result<(String, String), AllocError>
+    requires { moment < MOMENT_LIMIT }
+    ensures text { IfOk result (λ texts. string_bytes texts.0 ≡ text_for_plan plan.now moment) }
+    ensures lines { IfOk result (λ texts. string_bytes texts.1 ≡ warning_lines (plan_warnings plan.now moment)) }
+{
+    let text = text_of(alloc, plan, moment)?;
+    let warnings = warnings_of(alloc, plan, moment)?;
+    Ok((text, lines_of(alloc, &warnings)?))
+}
+
+/// The lines of what CoDel of the device in a file does at the hops of a plan, if one is given.
+fn codel_of<H: AllocGlobal + Files<File = File>>(
+    rt: &H,
+    plan: &Plan,
+    device: Option<&str>,
+) -> Result<String, CommandFault>
+    ensures { IfOk result (λ text. IsCodelText (is_some device.entry) plan.now (string_bytes text)) }
+{
+    match device {
+        Some(file) => codel_of_file(rt, plan, file),
+        None => Ok(String::new(rt.alloc())),
+    }
+}
+
+/// The lines of what CoDel of the device in a file does at the hops of a plan. The device is only read, without a lock,
+/// so a station may serve it.
+fn codel_of_file<H: AllocGlobal + Files<File = File>>(
+    rt: &H,
+    plan: &Plan,
+    file: &str,
+) -> Result<String, CommandFault>
+    ensures { IfOk result (λ text. IsCodelOfDevice plan.now (string_bytes text)) }
+{
+    let mut disk = FileDisk::open_copy(rt, file)?;
+    let geometry = match read_header(&mut disk) {
+        Ok(geometry) => geometry,
+        Err(HeaderFault::NotADevice) => return Err(refusal_with_cause(Refusal::NotADevice, &disk)),
+        Err(HeaderFault::BadGeometry) => return Err(refusal_with_cause(
+            Refusal::BadGeometry,
+            &disk,
+        )),
+        Err(HeaderFault::Device) => return Err(refusal_with_cause(Refusal::Device, &disk)),
+    };
+    match codel_text_of(rt.alloc(), plan, &geometry.params) {
+        Ok(text) => Ok(text),
+        Err(_refused) => Err(refusal_with_cause(Refusal::OutOfMemory, &disk)),
+    }
+}
+
+/// Writes a text, and all of it before it returns.
+fn put<W: Write>(writer: &mut W, text: &str) -> Result<(), TextFault>
+    ensures { OnOk result (Appends (W.contents writer.old) (W.contents writer.new) text.now) }
+{
     writer
         .write_all(text.as_bytes())
         .map_err(|_| TextFault::Output)?;
-    writer.flush().map_err(|_| TextFault::Output)?;
-    Ok(())
+    writer.flush().map_err(|_| TextFault::Output)
 }
 
 /// The requested moment, or now by the system's clock, up to the last moment of a plan.

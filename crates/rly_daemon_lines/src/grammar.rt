@@ -222,7 +222,7 @@ fn parse_hop(word: &[u8]) -> Option<HopId>
 }
 
 /// The number of a peer or of a hop.
-fn parse_id(word: &[u8]) -> Option<u16>
+pub(crate) fn parse_id(word: &[u8]) -> Option<u16>
     ensures { result ≡ id_in word.now }
 {
     let number = parse_number(word)?;
@@ -230,7 +230,7 @@ fn parse_id(word: &[u8]) -> Option<u16>
 }
 
 /// A number in decimal, without leading zeros.
-fn parse_number(word: &[u8]) -> Option<u64>
+pub(crate) fn parse_number(word: &[u8]) -> Option<u64>
     ensures { result ≡ number_in word.now }
 {
     if !is_numeral(word) {

@@ -11,6 +11,7 @@ ghost use Rattle.rly_daemon_lines.specs.HelpersPlay.{answers_behind, asks_of, ro
 
 use crate::grammar::parse_line;
 use crate::line_evaluation::{add_refused_line, add_reply};
+use crate::line_note::note_line;
 use crate::line_reader::LineReader;
 use crate::outflow::{hand_on, relieve};
 use crate::text_fault::TextFault;
@@ -109,6 +110,7 @@ impl LineBatch {
             return Ok(false);
         }
         let ask = parse_line(alloc, lines.line())?;
+        note_refused(alloc, lines, &ask);
         self.put(ask)?;
         Ok(true)
     }
@@ -223,4 +225,11 @@ fn add_slot<'a>(
     };
     add_reply(text, subject, &answer.reply)?;
     Ok(rest)
+}
+
+/// Says on standard error what is wrong with the last line, if it has no ask.
+fn note_refused(alloc: Global, lines: &LineReader, ask: &Option<Ask>) {
+    if ask.is_none() {
+        note_line(alloc, lines.number(), lines.line());
+    }
 }

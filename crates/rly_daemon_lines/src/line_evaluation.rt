@@ -6,15 +6,18 @@ ghost use Rattle.rly_daemon_reply.specs.Replies.{reply_text, subject_of};
 ghost use Rattle.rly_daemon_lines.specs.Text.{answer_of};
 
 use crate::grammar::parse_line;
+use crate::line_note::note_line;
 use rly_core::Refusal;
 use rly_daemon_reply::{ReplyLine, Subject};
 use rly_machine::{Ask, Machine, Payload, Reply};
 use std::alloc::{AllocError, Global};
 
-/// Evaluates the ask of a line on a machine, and appends the reply line with its newline.
+/// Evaluates the ask of a line on a machine, and appends the reply line with its newline. Says on standard error what is
+/// wrong with a line of this number that has no ask.
 pub(crate) fn answer_line(
     alloc: Global,
     machine: &mut Machine<Payload>,
+    number: u64,
     line: &[u8],
     text: &mut String,
 ) -> Result<(), AllocError>
@@ -25,7 +28,10 @@ pub(crate) fn answer_line(
 {
     match parse_line(alloc, line)? {
         Some(ask) => answer_ask(alloc, machine, ask, text),
-        None => add_refused_line(text),
+        None => {
+            note_line(alloc, number, line);
+            add_refused_line(text)
+        }
     }
 }
 

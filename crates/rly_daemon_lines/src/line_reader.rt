@@ -24,6 +24,8 @@ pub struct LineReader {
     end: usize,
     line: Vec<u8>,
     total: u64,
+    /// The number of the last line, counted from 1.
+    number: u64,
 }
 
 impl Model for LineReader {
@@ -54,6 +56,7 @@ impl LineReader {
             end: 0,
             line,
             total: 0,
+            number: 0,
         })
     }
 
@@ -62,6 +65,11 @@ impl LineReader {
         ensures { result.now ≡ self.now.line }
     {
         self.line.as_slice()
+    }
+
+    /// The number of the last line, counted from 1.
+    pub(crate) fn number(&self) -> u64 {
+        self.number
     }
 
     /// Whether the buffer is empty, so that the next line waits for the reader.
@@ -96,6 +104,7 @@ impl LineReader {
         ensures { self.new ≡ record self.old { line = [] } }
     {
         self.line.clear();
+        self.number = self.number.saturating_add(1);
     }
 
     /// Consumes a piece of the line from the buffer: up to its newline, or all there is. Returns whether the line

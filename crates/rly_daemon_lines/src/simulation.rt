@@ -84,7 +84,7 @@ fn answer_next<R: Read, W: Write>(
     if !lines.next_line(reader)? {
         return Ok(false);
     }
-    answer_line(alloc, machine, lines.line(), text)?;
+    answer_line(alloc, machine, lines.number(), lines.line(), text)?;
     relieve(text, writer)?;
     Ok(true)
 }

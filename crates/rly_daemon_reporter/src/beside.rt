@@ -7,6 +7,7 @@ ghost use Rattle.rly_line.specs.ResponderView.{IsSeatOf};
 ghost use Rattle.rly_daemon_reporter.specs.HelpersReporterAtSeat.{CanRelay, HasRelayed};
 
 use rly_disk::Disk;
+use rly_flush::RoundWatch;
 use rly_journal::Journal;
 use rly_line::{LineEnd, Seat};
 use rly_link::{Link, Post, Turn, Waker};
@@ -55,7 +56,7 @@ pub(crate) struct Both<D: Disk, L: Link, T: Turn, K: Waker, A> {
     pub(crate) had_thread: bool,
 }
 
-/// Runs a relay, and in parallel a task that has one seat of its queue. If there is no thread for the task, the
+/// Runs a relay, whose rounds are shown to `watch`, and in parallel a task that has one seat of its queue. If there is no thread for the task, the
 /// relay doesn't wait for that seat, and the task runs after the relay.
 pub(crate) fn run_beside<
     R: Threads + Wait + Clock + Sync,
@@ -66,12 +67,14 @@ pub(crate) fn run_beside<
     S: Task<Output = A> + Drop + Send,
     A: Drop + Send,
     B: Waker,
+    V: RoundWatch,
 >(
     rt: &R,
     alloc: Global,
     plan: &Plan,
     work: Work<D, L, T, K>,
     bell: &mut B,
+    watch: &mut V,
     task: S,
     stop_flag: &OnceLock<bool>,
 ) -> Both<D, L, T, K, A>
@@ -89,7 +92,7 @@ pub(crate) fn run_beside<
             ensures gives { S.run_gives task result.output }
             ensures relayed { HasRelayed D.state L.heard L.sent T.told T.endless K.woken plan.entry.now work
                 result.relayed }
-        { run_in(scope, rt, alloc, plan, work, bell, task, stop_flag) },
+        { run_in(scope, rt, alloc, plan, work, bell, watch, task, stop_flag) },
     )
 }
 
@@ -105,6 +108,7 @@ fn run_in<
     S: Task<Output = A> + Drop + Send + 's,
     A: Drop + Send + 's,
     B: Waker,
+    V: RoundWatch,
 >(
     scope: &Scope<'s, E>,
     rt: &R,
@@ -112,6 +116,7 @@ fn run_in<
     plan: &Plan,
     work: Work<D, L, T, K>,
     bell: &mut B,
+    watch: &mut V,
     task: S,
     stop_flag: &OnceLock<bool>,
 ) -> Both<D, L, T, K, A>
@@ -131,7 +136,7 @@ fn run_in<
     );
     match started {
         Ok(thread) => {
-            let relayed = relay(rt, alloc, plan, work, bell, stop_flag, 0);
+            let relayed = relay(rt, alloc, plan, work, bell, watch, stop_flag, 0);
             Both {
                 relayed,
                 output: thread.join(rt),
@@ -139,7 +144,7 @@ fn run_in<
             }
         }
         Err(refused) => {
-            let relayed = relay(rt, alloc, plan, work, bell, stop_flag, 1);
+            let relayed = relay(rt, alloc, plan, work, bell, watch, stop_flag, 1);
             let task = refused.value;
             Both {
                 relayed,
@@ -158,12 +163,14 @@ fn relay<
     T: Turn + Drop + Send,
     K: Waker + Drop + Send,
     B: Waker,
+    V: RoundWatch,
 >(
     rt: &R,
     alloc: Global,
     plan: &Plan,
     work: Work<D, L, T, K>,
     bell: &mut B,
+    watch: &mut V,
     stop_flag: &OnceLock<bool>,
     gone: usize,
 ) -> Result<Relayed<D, L, T, K>, Journal<D>>
@@ -180,7 +187,7 @@ fn relay<
     let mut line_end = line_end;
     line_end.forget(gone);
     run_relay_at(
-        rt, alloc, journal, gather, plan, posts, bell, seats, line_end, stop_flag,
+        rt, alloc, journal, gather, plan, posts, bell, watch, seats, line_end, stop_flag,
     )
 }
 

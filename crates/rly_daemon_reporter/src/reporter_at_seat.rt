@@ -13,6 +13,7 @@ use crate::counters::Counters;
 use crate::report_clock::ReportClock;
 use crate::reporter::{Reporter, ReporterEnd, reporter_run};
 use rly_disk::Disk;
+use rly_flush::RoundWatch;
 use rly_journal::Journal;
 use rly_line::{LeftSeat, Seat, make};
 use rly_link::{Link, Post, Turn, Waker};
@@ -91,6 +92,7 @@ pub fn run_reported<
     C: Counters + Drop + Send,
     W: Write + Send,
     B: Waker,
+    V: RoundWatch,
 >(
     rt: &R,
     alloc: Global,
@@ -99,6 +101,7 @@ pub fn run_reported<
     plan: &Plan,
     posts: Vec<Post<L, T, K>>,
     bell: &mut B,
+    watch: &mut V,
     pace: P,
     counters: C,
     writer: &mut W,
@@ -123,7 +126,7 @@ pub fn run_reported<
         return Err(journal);
     };
     let seat = seats.take_last();
-    let watch = ReporterSetup {
+    let setup = ReporterSetup {
         rt,
         alloc,
         plan,
@@ -143,7 +146,7 @@ pub fn run_reported<
         relayed,
         output: (writer, left),
         had_thread,
-    } = run_beside(rt, alloc, plan, work, bell, watch, stop_flag);
+    } = run_beside(rt, alloc, plan, work, bell, watch, setup, stop_flag);
     take_back(writer);
     let mut relayed = relayed?;
     let seat = Snapshot::of(&left.seat);

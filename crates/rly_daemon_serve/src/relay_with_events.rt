@@ -21,6 +21,7 @@ use crate::wall_report_clock::WallReportClock;
 use rly_daemon_events::{HopLines, OutputShare, Rests, SharedOutput};
 use rly_daemon_reporter::{Counters, ReportClock, Reported, run_reported};
 use rly_disk::Disk;
+use rly_flush::RoundWatch;
 use rly_journal::Journal;
 use rly_link::{Link, Post, Turn, Waker};
 use rly_plan::Plan;
@@ -94,7 +95,7 @@ where
         (λ served. HasReports plan.now served.end.relayed.finished.last.value.line None None
         served.end.watched.seat.value served.end.watched.end) }
 {
-    let (posts, mut bell, is_told) = match tallied_start(
+    let (posts, mut bell, mut watch, is_told) = match tallied_start(
         rt,
         &journal,
         plan,
@@ -122,6 +123,7 @@ where
         plan,
         posts,
         &mut bell,
+        &mut watch,
         pace,
         tally,
         events,
@@ -142,6 +144,7 @@ fn run_with_events<
     C: Counters + Drop + Send,
     W: Write + Send,
     B: Waker,
+    V: RoundWatch,
 >(
     rt: &R,
     alloc: Global,
@@ -150,6 +153,7 @@ fn run_with_events<
     plan: &Plan,
     posts: Vec<Post<L, T, K>>,
     bell: &mut B,
+    watch: &mut V,
     pace: P,
     counters: C,
     events: Events<'_, '_, W>,
@@ -184,8 +188,8 @@ fn run_with_events<
             ensures refused { IfErr result.0 (λ back. back ≡ journal) }
         {
             relay_in(
-                scope, rt, alloc, journal, gather, plan, posts, bell, pace, counters, events,
-                stop_flag,
+                scope, rt, alloc, journal, gather, plan, posts, bell, watch, pace, counters,
+                events, stop_flag,
             )
         },
     );
@@ -207,6 +211,7 @@ fn relay_in<
     C: Counters + Drop + Send,
     W: Write + Send + 's,
     B: Waker,
+    V: RoundWatch,
 >(
     scope: &'s Scope<'s, E>,
     rt: &'s R,
@@ -216,6 +221,7 @@ fn relay_in<
     plan: &'s Plan,
     posts: Vec<Post<L, T, K>>,
     bell: &mut B,
+    watch: &mut V,
     pace: P,
     counters: C,
     events: Events<'s, 'w, W>,
@@ -238,7 +244,7 @@ fn relay_in<
     let started = scope.spawn(move || tell_events(rt, plan, rests, lines, output));
     let mut share = OutputShare::new(rt, output);
     let outcome = run_reported(
-        rt, alloc, journal, gather, plan, posts, bell, pace, counters, &mut share, stop_flag,
+        rt, alloc, journal, gather, plan, posts, bell, watch, pace, counters, &mut share, stop_flag,
     );
     rests.end();
     match started {

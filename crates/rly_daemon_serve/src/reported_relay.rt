@@ -21,9 +21,11 @@ ghost use Rattle.rly_line.specs.ResponderView.{IsAnsweredBy};
 ghost use Rattle.rly_daemon_reporter.specs.ReporterAtSeat.{HasWatchedAt};
 
 use crate::served_relay::{RelaySettings, Served, end_fault, ready_posts, report_start};
+use crate::spool_watch::SpoolWatch;
 use crate::wall_report_clock::WallReportClock;
 use rly_daemon_reporter::{Counters, ReportClock, Reported, TalliedLink, Tally, run_reported};
 use rly_disk::Disk;
+use rly_flush::RoundWatch;
 use rly_hop::StationId;
 use rly_journal::Journal;
 use rly_link::{Link, Post, Turn, Waker, Worker};
@@ -115,7 +117,7 @@ where
         (λ served. HasReports plan.now served.end.relayed.finished.last.value.line (W.contents writer.old)
         (W.contents writer.new) served.end.watched.seat.value served.end.watched.end) }
 {
-    let (posts, mut bell, is_told) = match tallied_start(
+    let (posts, mut bell, mut watch, is_told) = match tallied_start(
         rt,
         &journal,
         plan,
@@ -143,6 +145,7 @@ where
         plan,
         posts,
         &mut bell,
+        &mut watch,
         pace,
         tally,
         writer,
@@ -162,6 +165,7 @@ fn run_tallied<
     C: Counters + Drop + Send,
     W: Write + Send,
     B: Waker,
+    V: RoundWatch,
 >(
     rt: &R,
     alloc: Global,
@@ -170,6 +174,7 @@ fn run_tallied<
     plan: &Plan,
     posts: Vec<Post<L, T, K>>,
     bell: &mut B,
+    watch: &mut V,
     pace: P,
     counters: C,
     writer: &mut W,
@@ -189,7 +194,7 @@ fn run_tallied<
         × IsAnsweredBy served.end.relayed.finished.last.value.line served.end.watched.seat.value) }
 {
     let outcome = run_reported(
-        rt, alloc, journal, gather, plan, posts, bell, pace, counters, writer, stop_flag,
+        rt, alloc, journal, gather, plan, posts, bell, watch, pace, counters, writer, stop_flag,
     );
     served_of(outcome, true, is_told)
 }
@@ -223,7 +228,8 @@ pub(crate) fn served_of<
     }
 }
 
-/// The workers of a plan, whose links publish their counts to a tally, and whether the startup lines were written.
+/// The workers of a plan, whose links publish their counts to a tally, the watch of the spool, and whether the startup
+/// lines were written.
 pub(crate) fn tallied_start<
     'a,
     H: AllocGlobal + Files<File = File> + Clock + Net,
@@ -239,7 +245,15 @@ pub(crate) fn tallied_start<
     lines: Arc<ErrorLines, Global>,
     tally: &Arc<Tally, Global>,
     errors: &mut E,
-) -> Result<(Vec<TalliedPost<'a, H>>, SenderWaker, bool), ServeFault>
+) -> Result<
+    (
+        Vec<TalliedPost<'a, H>>,
+        SenderWaker,
+        SpoolWatch<&'a H>,
+        bool,
+    ),
+    ServeFault,
+>
     requires { IsSoundPlan plan.now }
     ensures room { OnOk result (FitsPlan plan.now journal.now.state.params) }
     ensures lacks { LacksRoom plan.now journal.now.state.params
@@ -247,10 +261,10 @@ pub(crate) fn tallied_start<
     ensures posts { IfOk result (λ started. map (duty_over link_below) started.0.items
         ≡ duties plan.now keys.entry (longest_message journal.now.state.params.payload) turns) }
 {
-    let (posts, bell) = ready_posts(rt, journal, plan, keys, turns, lines)?;
-    let is_told = report_start(journal, plan, size, &posts, errors).is_ok();
+    let (posts, bell, watch) = ready_posts(rt, journal, plan, keys, turns, lines)?;
+    let is_told = report_start(rt.alloc(), journal, plan, size, &posts, errors).is_ok();
     match tallied_posts(rt, plan, posts, tally) {
-        Ok(posts) => Ok((posts, bell, is_told)),
+        Ok(posts) => Ok((posts, bell, watch, is_told)),
         Err(refused) => Err(refused.into()),
     }
 }

@@ -1,9 +1,11 @@
 //! The running relay: its requirements on the device, its workers, and its outcome.
 
-ghost use Rattle.std.specs.Prelude.{◌≡◌, ◌≤◌, Bool, Err, IfErr, IfOk, None, OnOk, false, length, map};
+ghost use Rattle.std.specs.Prelude.{◌≡◌, ◌≤◌, ℕ, Bool, Err, IfErr, IfOk, List, None, OnOk, Option, false, length, map};
+ghost use Rattle.std.specs.Io.KnownBytes.{Appends};
 ghost use Rattle.rly_core.specs.declared.refusal.Refusal.TheVariants as refusal;
 ghost use Rattle.rly_hop.specs.Spelling.{longest_message};
 ghost use Rattle.rly_plan.specs.Sound.{IsSoundPlan};
+ghost use Rattle.rly_plan_show.specs.CodelText.{codel_text};
 ghost use Rattle.rly_daemon_serve.specs.ServedRelay.{FitsPlan, HasRun, LacksRoom, end_fault};
 ghost use Rattle.rly_posts.specs.Duties.{duties, duty_at};
 ghost use Rattle.rly_station.specs.Keys.{AreKeysOf};
@@ -11,16 +13,19 @@ ghost use Rattle.rly_station.specs.declared.file_fault.Cause.TheVariants as caus
 ghost use Rattle.rly_station.specs.declared.serve_fault.ServeFault.TheVariants as fault;
 ghost use Rattle.rly_threads.specs.Relay.{IsRelayEnd};
 
+use crate::spool_watch::SpoolWatch;
 use rly_audit::live_items;
 use rly_core::{Params, Refusal};
 use rly_disk::Disk;
+use rly_flush::RoundWatch;
 use rly_hop::longest_message;
 use rly_journal::Journal;
 use rly_link::{Link, Post, Turn, Waker};
 use rly_link_udp::{SenderWaker, WallClock};
 use rly_plan::Plan;
+use rly_plan_show::codel_text_of;
 use rly_posts::{NeighbourLink, UdpPost, posts_of};
-use rly_station::{Cause, ErrorLines, PlanKeys, ServeFault, WorkerName};
+use rly_station::{Cause, ErrorLines, Logger, PlanKeys, ServeFault, WorkerName};
 use rly_threads::{Relayed, run_relay};
 use std::alloc::{AllocError, Global};
 use std::fs::{File, Files};
@@ -91,11 +96,18 @@ where
     // A relay without a limit of turns never ends well.
     ensures ends { IfOk result (λ served. served.fault ≡ None → 1 ≤ settings.turns) }
 {
-    let (posts, mut bell) = match ready_posts(rt, &journal, plan, keys, settings.turns, lines) {
+    let (posts, mut bell, mut watch) = match ready_posts(
+        rt,
+        &journal,
+        plan,
+        keys,
+        settings.turns,
+        lines,
+    ) {
         Ok(ready) => ready,
         Err(fault) => return Err((fault, journal.into_disk())),
     };
-    let is_told = report_start(&journal, plan, size, &posts, errors).is_ok();
+    let is_told = report_start(rt.alloc(), &journal, plan, size, &posts, errors).is_ok();
     run_posts(
         rt,
         rt.alloc(),
@@ -104,6 +116,7 @@ where
         plan,
         posts,
         &mut bell,
+        &mut watch,
         is_told,
     )
 }
@@ -116,6 +129,7 @@ fn run_posts<
     T: Turn + Drop + Send,
     K: Waker + Drop + Send,
     B: Waker,
+    V: RoundWatch,
 >(
     rt: &R,
     alloc: Global,
@@ -124,6 +138,7 @@ fn run_posts<
     plan: &Plan,
     posts: Vec<Post<L, T, K>>,
     bell: &mut B,
+    watch: &mut V,
     is_told: bool,
 ) -> Result<Served<Relayed<D, L, T, K>>, (ServeFault, D)>
     requires count { (1 ≤ length posts.items) × (length posts.items ≤ 256) }
@@ -134,7 +149,7 @@ fn run_posts<
     ensures fault { IfOk result
         (λ served. served.fault ≡ end_fault served.end.finished.broken served.end.complete is_told) }
 {
-    match run_relay(rt, alloc, journal, gather, plan, posts, bell) {
+    match run_relay(rt, alloc, journal, gather, plan, posts, bell, watch) {
         Ok(end) => {
             let fault = end_fault(end.finished.broken, end.complete, is_told);
             Ok(Served { end, fault })
@@ -143,8 +158,8 @@ fn run_posts<
     }
 }
 
-/// The workers of a plan for whose neighbours a journal has room, each with its link and its clock. A broken
-/// journal is refused.
+/// The workers of a plan for whose neighbours a journal has room, each with its link and its clock, and the watch of the
+/// spool. A broken journal is refused.
 pub(crate) fn ready_posts<'a, H: AllocGlobal + Files<File = File> + Clock + Net, D: Disk>(
     rt: &'a H,
     journal: &Journal<D>,
@@ -152,7 +167,7 @@ pub(crate) fn ready_posts<'a, H: AllocGlobal + Files<File = File> + Clock + Net,
     keys: PlanKeys<'_>,
     turns: u64,
     lines: Arc<ErrorLines, Global>,
-) -> Result<(Vec<UdpPost<'a, H>>, SenderWaker), ServeFault>
+) -> Result<(Vec<UdpPost<'a, H>>, SenderWaker, SpoolWatch<&'a H>), ServeFault>
     requires { IsSoundPlan plan.now }
     ensures room { OnOk result (FitsPlan plan.now journal.now.state.params) }
     ensures lacks { LacksRoom plan.now journal.now.state.params
@@ -162,7 +177,10 @@ pub(crate) fn ready_posts<'a, H: AllocGlobal + Files<File = File> + Clock + Net,
         ≡ duties plan.now keys.entry (longest_message journal.now.state.params.payload) turns) }
 {
     let longest = longest_served(journal, plan)?;
-    posts_of(rt, plan, keys, longest, turns, lines)
+    let teller = Logger::new(Arc::try_clone(&lines)?);
+    let watch = SpoolWatch::new(rt.alloc(), rt, journal, teller)?;
+    let (posts, bell) = posts_of(rt, plan, keys, longest, turns, lines)?;
+    Ok((posts, bell, watch))
 }
 
 /// The length in bytes of the longest message of a journal that has room for a plan's neighbours and isn't broken.
@@ -181,8 +199,10 @@ fn longest_served<D: Disk>(journal: &Journal<D>, plan: &Plan) -> Result<usize, S
     Ok(longest_message(params.payload))
 }
 
-/// Logs what is served: the station, its neighbours, the used part of the device, and the links without a key.
+/// Logs what is served: the station, its neighbours, the used part of the device, the links without a key, and what
+/// CoDel of the device does at the hops.
 pub(crate) fn report_start<'a, H: AllocGlobal + Files<File = File> + Clock, D: Disk, E: Write>(
+    alloc: Global,
     journal: &Journal<D>,
     plan: &Plan,
     size: u64,
@@ -190,6 +210,8 @@ pub(crate) fn report_start<'a, H: AllocGlobal + Files<File = File> + Clock, D: D
     errors: &mut E,
 ) -> io::Result<()>
     requires { journal.now.broken ≡ false }
+    ensures codel { OnOk result ((before : Option (List ℕ))
+        × Appends before (E.contents errors.new) (codel_text plan.now journal.now.state.params)) }
 {
     let station = plan.station();
     let peers = plan.peer_count();
@@ -200,7 +222,8 @@ pub(crate) fn report_start<'a, H: AllocGlobal + Files<File = File> + Clock, D: D
         errors,
         "rly: serving station {station}, {peers} peers, {hops} hops, device {size} bytes, {live} of {items} live"
     )?;
-    report_open(posts, errors)
+    report_open(posts, errors)?;
+    report_codel(alloc, journal, plan, errors)
 }
 
 /// Logs which links have no key, if any.
@@ -221,6 +244,21 @@ fn report_open<'a, H: AllocGlobal + Files<File = File> + Clock, E: Write>(
         writeln!(errors)?;
     }
     Ok(())
+}
+
+/// Logs what CoDel of the device does at each hop with contacts.
+fn report_codel<D: Disk, E: Write>(
+    alloc: Global,
+    journal: &Journal<D>,
+    plan: &Plan,
+    errors: &mut E,
+) -> io::Result<()>
+    ensures { OnOk result (Appends (E.contents errors.old) (E.contents errors.new)
+        (codel_text plan.now journal.now.state.params)) }
+{
+    journal.law_sound();
+    let text = codel_text_of(alloc, plan, &journal.params())?;
+    errors.write_all(text.as_bytes())
 }
 
 /// Refuses a plan that has more peers or hops than the device.

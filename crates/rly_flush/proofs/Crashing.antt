@@ -14,7 +14,7 @@ use Rattle.rly_machine.specs.declared.command.Command.{Command}
 use Rattle.rly_machine.specs.declared.reply.Reply.TheVariants.{Refused}
 use Rattle.rly_machine.specs.Fold.{fold}
 use Rattle.rly_machine.specs.History.{Entry, accepted_of, LegalBy, LegalButForBytes, harm_after, state_after, without_bytes}
-use Rattle.rly_machine.specs.State.{State}
+use Rattle.rly_machine.specs.State.{State, live_bytes, live_items}
 use Rattle.rly_machine.proofs.Histories.{folds, legal_append}
 use Rattle.rly_journal.specs.Journal.{IsRound, JournalState, StaysShut}
 use Rattle.rly_journal.specs.Rounds.{AreServed, refusal_of, refusals}
@@ -26,7 +26,9 @@ use Rattle.rly_line.specs.Submission.{LineId}
 use Rattle.rly_line.proofs.ReplyHistories.{with_over}
 use Rattle.rly_flush.specs.HelpersFlusher.{AreCollected, IsFlushing, IsRounded}
 use Rattle.rly_flush.specs.FlusherHistory.{AreHarmless, AreLostOrShut, FlusherState, GrewInRound, IsBreaking, IsCrashSafe, IsLeftIn, IsDoubtful, IsOneHistory, IsOneRound, answered_state, entries_since, fold_of_history, over_now, state_reached}
+use Rattle.rly_flush.specs.RoundWatch.{Begun, Ended, HasWatchedRound, Look, ShowsMore}
 use Rattle.rly_flush.proofs.Joining.{GoesOn, goes_on}
+use Rattle.rly_flush.proofs.Watching.{shows_both}
 use Rattle.rly_flush.proofs.Refusing.{accepted_append, all_append, all_broken, all_harmless, all_unsure, broken_accepts_none, calls_in_append, calls_in_zip, unsure_accepts_none}
 
 -- a flusher once these calls were received, those of a round were answered, and this batch was kept
@@ -393,6 +395,9 @@ module _ {D : Type 0} (state : D → DiskState) (consistent : (disk : D) → (st
         subst (λ (y : ResponderView × List Call). LegalBy without_bytes (harm_after 0 y.0.history) (state_after y.0.start y.0.history) (zip y.1 given)) (λ i. (sym taken.line i, sym same i))
         (on state consistent old kept journal left old.line.lines taken.came calls given now some).but_for_bytes
 
+    all_answered : length given ≡ length calls
+    all_answered = (on state consistent old kept journal left old.line.lines taken.came calls given now some).count
+
     -- once all were answered
     pub went_on : {line : ResponderView} → line ≡ record collected { history = collected.history ++ zip said given; lines = line.lines } → IsOneResponder line
         → HasGone state old (record { first = old.first; journal = journal; kept = left; line = line })
@@ -418,6 +423,20 @@ module _ {D : Type 0} (state : D → DiskState) (consistent : (disk : D) → (st
       history = ap (λ (l : ResponderView). l.history) told ∙ (λ i. (taken.line i).history ++ zip (same i) given);
       round = now.round;
       lost = lost;
+    }
+
+    -- and a watch was shown it
+    pub watched_round : {line : ResponderView} → line ≡ record collected { history = collected.history ++ zip said given; lines = line.lines }
+        → (before between after : Option (List Look)) (items bytes : ℕ) → items ≡ live_items journal.state → bytes ≡ live_bytes length journal.state
+        → ShowsMore before between (Begun calls ∷ []) → ShowsMore between after (Ended given items bytes ∷ [])
+        → HasWatchedRound before after old (record { first = old.first; journal = journal; kept = left; line = line })
+    watched_round {line} told before between after items bytes as_many as_long begun ended = record {
+      round = record { calls = calls; given = given; items = items; bytes = bytes };
+      count = all_answered;
+      history = ap (λ (l : ResponderView). l.history) told ∙ (λ i. (taken.line i).history ++ zip (same i) given);
+      items = as_many;
+      bytes = as_long;
+      shown = shows_both before between after (Begun calls ∷ []) (Ended given items bytes ∷ []) begun ended;
     }
 
 -- nothing was received yet

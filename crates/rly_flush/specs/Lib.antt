@@ -1,2 +1,3 @@
 pub mod HelpersFlusher
 pub mod FlusherHistory
+pub mod RoundWatch

@@ -9,9 +9,11 @@ ghost use Rattle.rly_line.specs.Submission.{IsBeginning};
 ghost use Rattle.rly_flush.specs.FlusherHistory.{AreLostOrShut, GrewInRound, IsCrashSafe, IsOneHistory, IsOneRound};
 ghost use Rattle.rly_flush.specs.FlusherHistory.{IsServed, new_flusher, over_now};
 ghost use Rattle.rly_flush.specs.HelpersFlusher.{IsRounded};
+ghost use Rattle.rly_flush.specs.RoundWatch.{HasWatched, HasWatchedRound};
 
 use crate::owned_journal::OwnedJournal;
 use crate::round_calls::{Lists, answer_all, collect};
+use crate::round_watch::RoundWatch;
 use rly_disk::Disk;
 use rly_journal::Journal;
 use rly_line::{Batch, ClosedEnd, LineEnd, Responder, Seat};
@@ -106,11 +108,13 @@ impl<D: Disk> Flusher<D> {
     /// 64 calls together, makes one round of the journal for them, and answers each batch. A batch that does not
     /// fit is kept for the next round. If the round has a command and room for more calls, it pauses first, if the
     /// flusher has a pause, and takes what came meanwhile. On a broken journal, takes only one batch, without a
-    /// pause. Returns false if no batch and no seat is left.
-    pub fn round<R: Wait + Clock>(&mut self, rt: &R) -> bool
+    /// pause. Shows the round to `watch`. Returns false if no batch and no seat is left.
+    pub fn round<R: Wait + Clock, W: RoundWatch>(&mut self, rt: &R, watch: &mut W) -> bool
         // Returns true iff it made one round of the journal, for the batch that was kept and those it received.
         ensures took { MatchBool result (IsOneRound D.state self.old self.new) (self.new ≡ over_now self.old) }
         ensures none_kept { result ≡ false → self.old.kept ≡ None }
+        ensures watched { MatchBool result (HasWatchedRound (W.shown watch.old) (W.shown watch.new) self.old self.new)
+            (watch.new ≡ watch.old) }
         // On a broken journal it takes one batch alone, and keeps none.
         ensures alone { self.old.journal.broken ≡ true → self.new.kept ≡ None }
         ensures first { self.new.first ≡ self.old.first }
@@ -135,12 +139,16 @@ impl<D: Disk> Flusher<D> {
         ) {
             return false;
         }
+        watch.begin(&self.lists.calls);
         commit(
             self.alloc,
             &mut self.owned.journal,
             &mut self.lists.calls,
             &mut self.lists.answers,
         );
+        let items = self.owned.journal.item_count();
+        let bytes = self.owned.journal.byte_count();
+        watch.end(&self.lists.answers, items, bytes);
         answer_all(
             rt,
             &mut self.line,
@@ -153,17 +161,19 @@ impl<D: Disk> Flusher<D> {
 
     /// Makes rounds until each seat left or was dropped, or until the journal is broken and each received batch is
     /// answered, and hands the journal back. A batch left in the queue returns `Lost` to its seat, and each later
-    /// call `Closed`.
-    pub fn serve<R: Wait + Clock>(self, rt: &R) -> Finished<D>
+    /// call `Closed`. Shows each round to `watch`.
+    pub fn serve<R: Wait + Clock, W: RoundWatch>(self, rt: &R, watch: &mut W) -> Finished<D>
         ensures broken { result.broken ≡ result.journal.broken }
         ensures journal { result.last.value.journal ≡ result.journal }
         ensures ends { IsServed D.state self result.last.value }
         ensures closed { IsLeftBy result.last.value.line result.lines }
+        // The watch was shown each round: the calls and answers of the history, once, in order.
+        ensures watched { HasWatched (W.shown watch.old) (W.shown watch.new) self result.last.value }
     {
         let mut flusher = self;
         flusher.law_history();
         for _count in rt.forever() {
-            if !flusher.round(rt) || flusher.has_ended() {
+            if !flusher.round(rt, watch) || flusher.has_ended() {
                 break;
             }
         }

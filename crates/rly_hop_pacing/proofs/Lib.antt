@@ -8,3 +8,4 @@ pub mod NextWork
 pub mod LaterMoments
 pub mod RateMoments
 pub mod SkippedTurns
+pub mod Custodies

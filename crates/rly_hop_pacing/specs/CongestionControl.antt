@@ -1,5 +1,5 @@
 -- The congestion control of a hop, event by event (docs/PROTOCOL.md, "The pace of a hop").
-use Rattle.std.specs.Prelude.{ℕ, zero, suc, ◌+◌, ◌-◌, ◌*◌, ◌/◌, ◌^◌, ◌==◌, min, max, nat_le, nat_lt, Bool, true, false, not}
+use Rattle.std.specs.Prelude.{ℕ, ◌+◌, ◌-◌, ◌*◌, ◌/◌, ◌^◌, ◌==◌, min, max, nat_le, nat_lt, Bool, true, false, not}
 use Rattle.std.specs.Prelude.{◌&&◌, ◌||◌, if◌then◌else◌, List, [], ◌∷◌, length, take, Option, Some, None, is_some}
 use Rattle.std.specs.List.{filter}
 use Rattle.std.specs.Option.{option_map_or}
@@ -14,6 +14,7 @@ use Rattle.rly_hop_pacing.specs.Pacers.{first_pacer, on_paced, pacer_room}
 use Rattle.rly_hop_pacing.specs.Scoreboards.{after_heard, after_sending, empty_board, forgotten, is_after_timeout, is_heard, is_passed}
 use Rattle.rly_hop_pacing.specs.Scoreboards.{is_reordered, is_repeated_before, is_told, is_unanswered, last_sent}
 use Rattle.rly_hop_pacing.specs.Scoreboards.{last_sent_at, on_opening, one_more}
+use Rattle.rly_hop_pacing.specs.RoundTrips.{longest_wait}
 use Rattle.rly_hop_pacing.specs.Timers.{first_timer, is_past, round_trip, timer_anew, timer_limited, timer_on_sample}
 use Rattle.rly_hop_pacing.specs.Timers.{timer_on_timeout}
 use Rattle.rly_hop_pacing.specs.Windows.{first_congestion, on_round, shortest}
@@ -21,7 +22,8 @@ use Rattle.rly_hop_pacing.specs.Windows.{first_congestion, on_round, shortest}
 -- whether a contact is open; the flight, the scoreboard, the retransmission timer, the congestion window, the pacer and
 -- the round; when custody last covered more, and when a number was last heard that wasn't heard before, if it was since
 -- the last Timeout; whether the first number in flight goes out again by a Timeout; the number after all that were
--- sent before the last Timeout after news; and whether the hop's station ever sent a Heard
+-- sent before the last Timeout after news; whether the hop's station ever sent a Heard; and whether a Custody ended the
+-- doubling since the last Timeout
 pub record ControlView : Type 0 where
   pub is_open : Bool
   pub flight : Flight
@@ -35,6 +37,7 @@ pub record ControlView : Type 0 where
   pub is_due : Bool
   pub recover : ℕ
   pub is_reporting : Bool
+  pub is_answered : Bool
 
 -- a round begins
 abbrev pub first_round : Scoreboard → ℕ → Round
@@ -55,7 +58,12 @@ first_control resend window is_rated = record {
   is_due = false;
   recover = 0;
   is_reporting = false;
+  is_answered = false;
 }
+
+-- this much is left of the contact that is open, or it has no end
+abbrev pub on_left : ControlView → Option ℕ → ControlView
+on_left p left = record p { timer = record p.timer { longest = longest_wait left } }
 
 -- whether this opens a contact
 abbrev pub is_opening : ControlView → Bool → Bool
@@ -216,23 +224,38 @@ waiting_since p = max (last_sent_at p.board (p.flight.covered + 1)) p.covered_at
 abbrev pub is_timeout : ControlView → ℕ → Bool
 is_timeout p at = may_time_out p && is_past p.timer (waiting_since p) at
 
+-- Whether a Custody ends the doubling: once a round trip was measured, or while nothing new was heard since the last
+-- Timeout. Else the answers to copies of a number that took long would keep the wait shorter than the round trip.
+abbrev pub ends_doubling : ControlView → Bool
+ends_doubling p = is_some p.timer.trip || not (is_some p.news_at)
+
+-- A Custody of the number before the flight, or of one in it, was received: the hop's station is at work. It ends the doubling
+-- of the wait. If a wait that isn't doubled has passed, the first number in flight goes out again, and nothing else does.
+abbrev pub on_custody : ControlView → (at : ℕ) → ControlView
+on_custody p at =
+    let q = record p { timer = timer_anew p.timer; is_answered = true } in
+    if ends_doubling p
+    then record q { is_due = p.is_due || (is_timeout q at && not (is_timeout p at)) }
+    else p
+
 -- The number after all that the station gets one by one: a Timeout after news lets one new number out, and a further one
--- lets out four.
+-- without an answer lets out four.
 abbrev pub recover_after : ControlView → ℕ
 recover_after p =
     if is_some p.news_at then one_more p.flight.reached
-    else (if is_recovering p then min (p.flight.reached + 4) (2 ^ 64 - 1) else p.recover)
+    else (if is_recovering p && not p.is_answered then min (p.flight.reached + 4) (2 ^ 64 - 1) else p.recover)
 
 abbrev pub with_timeout : ControlView → ℕ → ControlView
 with_timeout p at =
     if is_timeout p at
     then record p {
-      board = forgotten p.board;
+      board = forgotten p.board p.is_answered;
       timer = timer_on_timeout p.timer;
       round = first_round p.board at;
       news_at = None;
       is_due = true;
       recover = recover_after p;
+      is_answered = false;
     }
     else p
 

@@ -33,6 +33,12 @@ abbrev pub plain_wait : ℕ → Option RoundTrip → ℕ
 plain_wait resend None = max resend 1000000
 plain_wait resend (Some t) = max resend (measured_wait t)
 
--- RFC 6298, (5.5) and (2.5): a Timeout doubles the wait, up to 60 seconds, and never lowers it
-abbrev pub doubled_wait : ℕ → ℕ
-doubled_wait wait = max wait (min (2 * wait) 60000000)
+-- RFC 6298, (5.5) and (2.5): a Timeout doubles the wait, up to the longest, and never lowers it
+abbrev pub doubled_wait : (wait longest : ℕ) → ℕ
+doubled_wait wait longest = max wait (min (2 * wait) longest)
+
+-- The longest doubled wait if this much is left of the contact: a sixteenth of it, at least 10 seconds and at most 60. It is 60
+-- if the contact has no end.
+abbrev pub longest_wait : Option ℕ → ℕ
+longest_wait None = 60000000
+longest_wait (Some left) = min (max (left / 16) 10000000) 60000000

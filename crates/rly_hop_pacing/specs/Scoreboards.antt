@@ -140,13 +140,14 @@ after_heard b told at trip covered zero = b
 after_heard b told at trip covered (suc place) =
     heard_if (told (covered + place + 1)) (after_heard b told at trip covered place) at trip (covered + place + 1)
 
--- a Timeout: what was heard is forgotten
-abbrev pub forgotten : Scoreboard → Scoreboard
-forgotten b = record b {
+-- A Timeout: what was heard is forgotten. If nothing was heard since the one before, and no answer came, what was sent is
+-- unanswered.
+abbrev pub forgotten : Scoreboard → (is_answered : Bool) → Scoreboard
+forgotten b is_answered = record b {
   epoch = one_more b.epoch;
   newest = 0;
   lost = b.count;
-  silent = if b.newest == 0 then b.count else b.silent;
+  silent = if (b.newest == 0) && not is_answered then b.count else b.silent;
 }
 
 -- A contact opens: what was heard is forgotten, and no earlier sending counts as the latest.

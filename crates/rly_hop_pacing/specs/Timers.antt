@@ -7,7 +7,7 @@ use Rattle.rly_hop_pacing.specs.RoundTrips.{doubled_wait, plain_wait, after_samp
 
 -- initially nothing is measured
 abbrev pub first_timer : ℕ → Timer
-first_timer resend = record { resend = resend; trip = None; wait = plain_wait resend None }
+first_timer resend = record { resend = resend; trip = None; wait = plain_wait resend None; longest = 60000000 }
 
 -- the round trip: a second before the first sample
 abbrev pub trip_or_second : Option RoundTrip → ℕ
@@ -40,4 +40,4 @@ timer_moment t since at = moment_after since t.wait at
 
 -- RFC 6298, (5.5): a Timeout doubles the wait
 abbrev pub timer_on_timeout : Timer → Timer
-timer_on_timeout t = record t { wait = doubled_wait t.wait }
+timer_on_timeout t = record t { wait = doubled_wait t.wait t.longest }

@@ -3,6 +3,7 @@ ghost use Rattle.rly_hop_pacing.specs.CongestionControl.{ControlView, first_cont
 ghost use Rattle.rly_hop_pacing.specs.Flights.{sent_count};
 ghost use Rattle.rly_hop_pacing.specs.CongestionControl.{first_option, is_closed, is_on_way, is_recovering, is_spare};
 ghost use Rattle.rly_hop_pacing.specs.CongestionControl.{is_opening, is_stopped, is_timeout, is_wide, on_contact, on_covered};
+ghost use Rattle.rly_hop_pacing.specs.CongestionControl.{ends_doubling, on_custody, on_left};
 ghost use Rattle.rly_hop_pacing.specs.CongestionControl.{on_heard, on_report, on_sent, on_time, on_window, open_room};
 ghost use Rattle.rly_hop_pacing.specs.CongestionControl.{probe_number, repeats, slack, spare_number, spare_of, unrated_room};
 ghost use Rattle.rly_hop_pacing.specs.CongestionControl.{may_time_out, probe_wait, quiet_if_probe, unsent_count};
@@ -13,6 +14,7 @@ mod next_moment;
 use crate::congestion::{Congestion, Round};
 use crate::flight::Flight;
 use crate::pacer::Pacer;
+use crate::round_trip::longest_wait;
 use crate::scoreboard::{SLOTS, Scoreboard};
 use crate::timer::Timer;
 use arrayvec::ArrayVec;
@@ -45,6 +47,7 @@ pub struct CongestionControl {
     is_due: bool,
     recover: u64,
     is_reporting: bool,
+    is_answered: bool,
 }
 
 impl Model for CongestionControl {
@@ -65,6 +68,7 @@ impl Model for CongestionControl {
       is_due = p.is_due;
       recover = p.recover;
       is_reporting = p.is_reporting;
+      is_answered = p.is_answered;
     } };
 }
 
@@ -97,6 +101,7 @@ impl CongestionControl {
             is_due: false,
             recover: 0,
             is_reporting: false,
+            is_answered: false,
         }
     }
 
@@ -131,6 +136,14 @@ impl CongestionControl {
         opens
     }
 
+    /// Reports how many microseconds are left of the contact, or that it has no end. A Timeout doubles the wait up to a sixteenth
+    /// of it, at least 10 seconds and at most 60.
+    pub fn left_is(&mut self, left: Option<u64>)
+        ensures { self.new ≡ on_left self.old left }
+    {
+        self.timer.longest = longest_wait(left);
+    }
+
     /// Reports a custody of the numbers up to `last`, from the hop's station to the own one. One that covers no number
     /// in flight changes nothing.
     pub fn on_covered(&mut self, last: u64, at: u64)
@@ -158,6 +171,29 @@ impl CongestionControl {
         ensures { result ≡ is_recovering self.now }
     {
         !self.is_reporting && self.flight.covered < self.recover.min(self.flight.reached)
+    }
+
+    /// Reports a Custody from the hop's station to the own one, of the number before the flight or of one in it; called after
+    /// `on_covered`. The station is at work, so the wait is no longer doubled. If the wait that isn't doubled has passed, the
+    /// first number in flight goes out again. So however many come, they draw one Data for each `resend` at most.
+    pub fn on_custody(&mut self, at: u64)
+        ensures { self.new ≡ on_custody self.old at }
+    {
+        if !self.ends_doubling() {
+            return;
+        }
+        let was_timeout = self.is_timeout(at);
+        self.timer.begin();
+        self.is_answered = true;
+        self.is_due |= self.is_timeout(at) && !was_timeout;
+    }
+
+    /// Whether a Custody ends the doubling: not while the answers to copies of a number that took long may come, before a
+    /// round trip was measured.
+    fn ends_doubling(&self) -> bool
+        ensures { result ≡ ends_doubling self.now }
+    {
+        self.timer.trip.is_some() || self.news_at.is_none()
     }
 
     /// Reports a Heard from the hop's station to the own one. One from before the last custody changes nothing.
@@ -229,14 +265,15 @@ impl CongestionControl {
         if self.is_timeout(at) {
             if self.news_at.is_some() {
                 self.recover = self.flight.reached.saturating_add(1);
-            } else if self.is_recovering() {
+            } else if self.is_recovering() && !self.is_answered {
                 self.recover = self.flight.reached.saturating_add(FURTHER);
             }
-            self.board.forget();
+            self.board.forget(self.is_answered);
             self.timer.time_out();
             self.begin_round(at);
             self.news_at = None;
             self.is_due = true;
+            self.is_answered = false;
         }
         self.round.is_limited |= self.is_open && self.room(at) == 0;
     }

@@ -1,8 +1,8 @@
 //! What follows from the definitions of the congestion control.
 
-ghost use Rattle.std.specs.Prelude.{◌≡◌, ◌<◌, ◌≤◌, ◌^◌, ◌-◌, Bool, Some, false, nat_lt, true, ℕ};
-ghost use Rattle.rly_hop_pacing.specs.CongestionControl.{ControlView, is_opening, is_timeout, on_contact, on_time};
-ghost use Rattle.rly_hop_pacing.specs.CongestionControl.{on_window};
+ghost use Rattle.std.specs.Prelude.{◌≡◌, ◌≢◌, ◌<◌, ◌≤◌, ◌^◌, ◌+◌, ◌-◌, Bool, Some, false, nat_lt, true, ℕ};
+ghost use Rattle.rly_hop_pacing.specs.CongestionControl.{ControlView, is_missing, is_opening, is_timeout, on_contact, on_custody};
+ghost use Rattle.rly_hop_pacing.specs.CongestionControl.{on_time, on_window, spare_number, waiting_since};
 ghost use Rattle.rly_hop_pacing.specs.Moments.{IsBefore};
 ghost use Rattle.rly_hop_pacing.specs.NextMoments.{IsIdle, can_send, has_work, next_moment, next_timeout};
 ghost use Rattle.rly_hop_pacing.specs.Pacers.{pacer_moment, pacer_room};
@@ -53,6 +53,16 @@ pub fn law_turn_without_a_timeout()
     ensures work { (p : ControlView) (at : ℕ) (wants : Bool) → is_timeout p at ≡ false →
         can_send (on_time p at) at wants ≡ can_send p at wants }
     ensures idle { (p : ControlView) (at : ℕ) (wants : Bool) → has_work p at wants ≡ false → IsIdle p at wants }
+{}
+
+/// A Custody makes no number go out again but the first in flight, and that one not before `resend` has passed since it was last
+/// sent and since custody last covered more. So however many come, they draw one Data for each `resend` at most.
+pub fn law_custody_draws_one()
+    ensures others { (p : ControlView) (at t number : ℕ) → number - 1 ≢ p.flight.covered →
+        is_missing (on_custody p at) t number ≡ is_missing p t number }
+    ensures spare { (p : ControlView) (at t : ℕ) → spare_number (on_custody p at) t ≡ spare_number p t }
+    ensures early { (p : ControlView) (at : ℕ) → at < waiting_since p + p.timer.resend →
+        (on_custody p at).is_due ≡ p.is_due }
 {}
 
 /// Until the next Timeout none is due.

@@ -19,8 +19,9 @@ mod timer;
 
 pub use crate::congestion_control::{CongestionControl, Numbers};
 pub use crate::laws::{
-    law_next_moment_is_later, law_next_timeout, law_nothing_to_do_before_the_next_moment,
-    law_opening_ends_no_round, law_pacer_has_room_at_its_moment, law_turn_without_a_timeout,
+    law_custody_draws_one, law_next_moment_is_later, law_next_timeout,
+    law_nothing_to_do_before_the_next_moment, law_opening_ends_no_round,
+    law_pacer_has_room_at_its_moment, law_turn_without_a_timeout,
     law_turns_before_the_next_moment_change_nothing,
 };
 pub use crate::rate::{Rate, law_next_moment_is_the_first_with_room, law_rate_is_kept};

@@ -1,5 +1,5 @@
 ghost use Rattle.std.specs.Prelude.{◌≡◌, min};
-ghost use Rattle.rly_hop_pacing.specs.RoundTrips.{deviation, doubled_wait, first_round_trip, measured_wait};
+ghost use Rattle.rly_hop_pacing.specs.RoundTrips.{deviation, doubled_wait, first_round_trip, longest_wait, measured_wait};
 ghost use Rattle.rly_hop_pacing.specs.RoundTrips.{next_round_trip, plain_wait, after_sample};
 
 /// The longest sample of a round trip, in microseconds: somewhat above 71 minutes. A longer one counts as this.
@@ -9,7 +9,10 @@ pub(crate) const LONGEST: u64 = 4_294_967_295;
 pub(crate) const FIRST_WAIT: u64 = 1_000_000;
 
 /// The maximum of a doubled wait, in microseconds.
-const LONGEST_DOUBLED: u64 = 60_000_000;
+pub(crate) const LONGEST_DOUBLED: u64 = 60_000_000;
+
+/// In a contact that is nearly over a wait still doubles up to this.
+const LEAST_DOUBLED: u64 = 10_000_000;
 
 /// The smoothed round trip of a hop and its variation, in microseconds (RFC 6298, section 2).
 #[derive(Clone, Copy)]
@@ -73,8 +76,18 @@ pub(crate) fn plain_wait(resend: u64, trip: Option<RoundTrip>) -> u64
 }
 
 /// The wait after a further Timeout.
-pub(crate) fn doubled_wait(wait: u64) -> u64
-    ensures { result ≡ doubled_wait wait }
+pub(crate) fn doubled_wait(wait: u64, longest: u64) -> u64
+    ensures { result ≡ doubled_wait wait longest }
 {
-    wait.max(wait.saturating_mul(2).min(LONGEST_DOUBLED))
+    wait.max(wait.saturating_mul(2).min(longest))
+}
+
+/// The longest doubled wait if this many microseconds are left of the contact.
+pub(crate) fn longest_wait(left: Option<u64>) -> u64
+    ensures { result ≡ longest_wait left }
+{
+    match left {
+        None => LONGEST_DOUBLED,
+        Some(left) => (left / 16).max(LEAST_DOUBLED).min(LONGEST_DOUBLED),
+    }
 }

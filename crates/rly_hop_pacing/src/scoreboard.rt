@@ -270,10 +270,10 @@ impl Scoreboard {
     }
 
     /// Forgets which numbers were heard, and the latest sending of them.
-    pub(crate) fn forget(&mut self)
-        ensures { self.new ≡ forgotten self.old }
+    pub(crate) fn forget(&mut self, is_answered: bool)
+        ensures { self.new ≡ forgotten self.old is_answered }
     {
-        if self.newest == 0 {
+        if self.newest == 0 && !is_answered {
             self.silent = self.count;
         }
         self.lost = self.count;

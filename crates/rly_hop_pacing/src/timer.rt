@@ -3,7 +3,7 @@ ghost use Rattle.rly_hop_pacing.specs.Timers.{first_timer, is_past, round_trip, 
 ghost use Rattle.rly_hop_pacing.specs.Timers.{timer_limited, timer_moment, timer_on_sample, timer_on_timeout};
 
 use crate::moment::moment_after;
-use crate::round_trip::{FIRST_WAIT, RoundTrip, doubled_wait, plain_wait};
+use crate::round_trip::{FIRST_WAIT, LONGEST_DOUBLED, RoundTrip, doubled_wait, plain_wait};
 
 /// The retransmission timer of a hop (RFC 6298), in microseconds.
 #[derive(Clone, Copy)]
@@ -14,6 +14,8 @@ pub(crate) struct Timer {
     pub(crate) trip: Option<RoundTrip>,
     /// The wait before the next Timeout.
     pub(crate) wait: u64,
+    /// Up to this a Timeout doubles the wait.
+    pub(crate) longest: u64,
 }
 
 impl Timer {
@@ -25,6 +27,7 @@ impl Timer {
             resend,
             trip: None,
             wait: plain_wait(resend, None),
+            longest: LONGEST_DOUBLED,
         }
     }
 
@@ -80,6 +83,6 @@ impl Timer {
     pub(crate) fn time_out(&mut self)
         ensures { self.new ≡ timer_on_timeout self.old }
     {
-        self.wait = doubled_wait(self.wait);
+        self.wait = doubled_wait(self.wait, self.longest);
     }
 }

@@ -12,7 +12,7 @@ ghost use Rattle.rly_journal.specs.Rounds.{AreLostWhereWanted, refusals};
 ghost use Rattle.rly_gate.specs.GroupReads.{OnlyRead};
 ghost use Rattle.rly_journal.specs.Groups.{empty_group};
 ghost use Rattle.rly_machine.specs.Sound.{IsSound};
-ghost use Rattle.rly_machine.specs.State.{has_peer, last_at};
+ghost use Rattle.rly_machine.specs.State.{has_peer, last_at, live_bytes, live_items};
 ghost use Rattle.rly_machine.specs.Query.{HasBytes, fetch_reply, item_of, show_reply};
 ghost use Rattle.rly_machine.specs.declared.reply.Reply.{Reply as AReply};
 ghost use Rattle.rly_journal.specs.OpenCalls.{BreaksOpening, MakesOpening, open_calls_succeeded};
@@ -316,6 +316,20 @@ impl<D: Disk> Journal<D> {
         ensures { result ≡ self.now.state.params }
     {
         self.index.machine().params()
+    }
+
+    /// Returns the number of live datagrams.
+    pub fn item_count(&self) -> u64
+        ensures { result ≡ live_items self.now.state }
+    {
+        self.index.machine().item_count()
+    }
+
+    /// Returns the number of live payload bytes.
+    pub fn byte_count(&self) -> u64
+        ensures { result ≡ live_bytes length self.now.state }
+    {
+        self.index.machine().byte_count()
     }
 
     /// Returns the number of accepted commands, up to the last reply.

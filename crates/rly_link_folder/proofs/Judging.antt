@@ -7,8 +7,8 @@ use Rattle.rly_folder.specs.FolderModel.{File, FolderState}
 use Rattle.rly_folder.specs.Names.{name_of}
 use Rattle.rly_folder.specs.declared.name.Area.{Area}
 use Rattle.rly_folder.specs.declared.name.Area.TheVariants.{New}
-use Rattle.rly_link_folder.specs.Inbox.{destination_of, Judges, longest_of, payload_in, routes_of}
-use Rattle.rly_link_folder.specs.InboxCalls.{destination_in, is_routed, payload_of, Reads, reason_for, reason_of}
+use Rattle.rly_link_folder.specs.Inbox.{destination_of, Judges, longest_of, reason_in, routes_of, takes_rest}
+use Rattle.rly_link_folder.specs.InboxCalls.{destination_in, payload_of, Reads, reason_of}
 use Rattle.rly_link_folder.specs.declared.admission.Admission.{Admission}
 
 -- two bytes more than the longest payload tell whether one is longer, also behind two others
@@ -24,21 +24,17 @@ same_destination longest [] = let e : longest + 2 ≡ suc (longest + 1) = omega 
 same_destination longest (high ∷ []) = let e : longest + 2 ≡ suc (suc longest) = omega arith in rw e refl
 same_destination longest (high ∷ low ∷ rest) = let e : longest + 2 ≡ suc (suc longest) = omega arith in rw e refl
 
-judges : (routed : ℕ → Bool) (longest : ℕ) (destination : Option ℕ) (file : List ℕ)
-    → reason_for routed (nat_lt longest (length (payload_of destination (take (longest + 2) file))))
-    (destination_in (payload_of destination (take (longest + 2) file)))
-    ≡ reason_for routed (nat_lt longest (length (payload_of destination file))) (destination_in (payload_of destination file))
-judges routed longest None file = rw (length-take (longest + 2) file, is_longer longest (length file), same_destination longest file) refl
-judges routed longest (Some destination) file =
+judges : (routes : List ℕ) (rest : Bool) (longest : ℕ) (destination : Option ℕ) (file : List ℕ)
+    → reason_of routes rest longest (payload_of destination (take (longest + 2) file)) ≡ reason_of routes rest longest (payload_of destination file)
+judges routes rest longest None file = rw (length-take (longest + 2) file, is_longer longest (length file), same_destination longest file) refl
+judges routes rest longest (Some destination) file =
     rw (length-take (longest + 2) file, is_longer_behind longest (length file)) refl
 
-pub judges_law : (rules : Admission) (file : List ℕ)
-    → reason_of (routes_of rules) (longest_of rules) (payload_in rules (take (longest_of rules + 2) file))
-    ≡ reason_of (routes_of rules) (longest_of rules) (payload_in rules file)
-judges_law rules file = judges (is_routed (routes_of rules)) (longest_of rules) (destination_of rules) file
+pub judges_law : (rules : Admission) (file : List ℕ) → reason_in rules (take (longest_of rules + 2) file) ≡ reason_in rules file
+judges_law rules file = judges (routes_of rules) (takes_rest rules) (longest_of rules) (destination_of rules) file
 
 -- a file that was read is judged by its bytes
 pub judged : {D : Type 0} (state : D → FolderState) (rules : Admission) (place : ℕ) (reason : Option Area) (file : File) (bytes : List ℕ) {old new : D}
     → Reads state (name_of New place) (longest_of rules + 2) (Some file) old new → bytes ≡ file.bytes
-    → reason ≡ reason_of (routes_of rules) (longest_of rules) (payload_in rules bytes) → Judges state rules place reason old new
+    → reason ≡ reason_in rules bytes → Judges state rules place reason old new
 judged state rules place reason file bytes reads is judge = record { found = file; reads = reads; is_reason = rw is at judge }

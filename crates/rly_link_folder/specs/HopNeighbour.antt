@@ -1,5 +1,5 @@
 -- The neighbour station of a hop, played by a folder: its answers to packets.
-use Rattle.std.specs.Prelude.{◌≡◌, ◌≢◌, ◌⊎◌, ◌≤◌, ◌+◌, ◌&&◌, ◌==◌, ℕ, Bool, true, false, if◌then◌else◌, List, Option, None, Some, is_some, ⊤}
+use Rattle.std.specs.Prelude.{◌≡◌, ◌≢◌, ◌⊎◌, ◌≤◌, ◌+◌, ◌&&◌, ◌||◌, ◌==◌, ℕ, Bool, true, false, if◌then◌else◌, List, Option, None, Some, is_some, ⊤}
 use Rattle.std.specs.Option.{option_map}
 use Rattle.rly_folder.specs.FolderModel.{File, file_with, FolderState}
 use Rattle.rly_hop.specs.declared.message.Message.{Message}
@@ -51,10 +51,15 @@ reply_of (Some (Take number limit payload)) = None
 
 -- the messages that wait, with this one: a later Custody says more than one before it
 abbrev pub with_custody : Replies → ℕ → Replies
-with_custody replies last = record replies { custody = Some last; full = false }
+with_custody replies last = record replies { custody = Some last }
 
 abbrev pub with_refused : Replies → ℕ → ℕ → Replies
-with_refused replies number refusal = record replies { refused = Some (number, refusal); full = refusal == 6 }
+with_refused replies number refusal =
+    record replies { refused = Some (number, refusal); full = replies.full || (refusal == 6) }
+
+-- the room of the folder is offered: a Custody that nobody asked for
+abbrev pub offered : Replies → ℕ → Replies
+offered replies last = record replies { custody = Some last; full = false }
 
 abbrev pub with_reply : Replies → Option (Message (List ℕ)) → Replies
 with_reply replies None = replies
@@ -92,13 +97,13 @@ pub record IsListed {F : Type 0} (replies : Replies) (old new : Neighbour F) : T
   pub most : most_of new.outbox ≡ most_of old.outbox
   pub rest : new ≡ record old { outbox = new.outbox; replies = replies }
 
--- if a Data was refused since the last Custody, as the folder was full: once there is room, a Custody of the greatest
--- number waits
+-- if a Data was refused since room was last offered, as the folder was full: once there is room, a Custody of the greatest
+-- number waits, whatever was answered in between
 abbrev pub OffersIf : Bool → {F : Type 0} → (F → FolderState) → Neighbour F → Neighbour F → Type 0
 OffersIf false state old new = new ≡ old
 OffersIf true state old new =
     (FindsRoom state old.outbox new.outbox × (1 ≤ spare_of new.outbox)
-    × IsListed (with_custody old.replies (greatest_of old.outbox)) old new)
+    × IsListed (offered old.replies (greatest_of old.outbox)) old new)
     ⊎ (FindsRoom state old.outbox new.outbox × (spare_of new.outbox ≡ 0) × IsListed old.replies old new)
     ⊎ (FailsToList state (spare_of old.outbox) (folder_of old.outbox) (folder_of new.outbox)
     × (spare_of new.outbox ≡ 0) × IsListed old.replies old new)

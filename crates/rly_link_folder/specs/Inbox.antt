@@ -1,5 +1,5 @@
 -- The state of an inbox in contracts, and what became of a file of `new/`.
-use Rattle.std.specs.Prelude.{◌≡◌, ◌⊎◌, ◌+◌, ◌≤◌, ◌<◌, ℕ, List, Option, None, Some}
+use Rattle.std.specs.Prelude.{◌≡◌, ◌⊎◌, ◌+◌, ◌≤◌, ◌<◌, ℕ, Bool, List, Option, None, Some}
 use Rattle.rly_folder.specs.declared.name.Area.{Area}
 use Rattle.rly_folder.specs.FolderModel.{File, FolderState}
 use Rattle.rly_folder.specs.Names.{name_of}
@@ -31,6 +31,10 @@ last_of inbox = inbox.last
 abbrev pub routes_of : Admission → List ℕ
 routes_of rules = rules.routes.items
 
+-- it takes also what no route leads
+abbrev pub takes_rest : Admission → Bool
+takes_rest rules = rules.rest
+
 abbrev pub longest_of : Admission → ℕ
 longest_of rules = rules.longest
 
@@ -42,12 +46,16 @@ destination_of rules = rules.destination
 abbrev pub payload_in : Admission → List ℕ → List ℕ
 payload_in rules file = payload_of (destination_of rules) file
 
+-- the reason for which a station with these rules refuses the datagram of a file for good
+abbrev pub reason_in : Admission → List ℕ → Option Area
+reason_in rules file = reason_of (routes_of rules) (takes_rest rules) (longest_of rules) (payload_in rules file)
+
 -- a file of `new/` was read, and a station with these rules refuses its datagram for this reason, or for none
 pub record Judges {D : Type 0} (state : D → FolderState) (rules : Admission) (place : ℕ) (reason : Option Area) (old new : D)
     : Type 0 where
   pub found : File
   pub reads : Reads state (name_of New place) (longest_of rules + 2) (Some found) old new
-  pub is_reason : reason ≡ reason_of (routes_of rules) (longest_of rules) (payload_in rules found.bytes)
+  pub is_reason : reason ≡ reason_in rules found.bytes
 
 abbrev pub IsJudged : {D : Type 0} → (D → FolderState) → Admission → ℕ → Judged → D → D → Type 0
 IsJudged state rules place judged.Gone old new = Reads state (name_of New place) (longest_of rules + 2) None old new

@@ -1,5 +1,5 @@
 -- The calls that give files numbers, read them, and remove them, in their order.
-use Rattle.std.specs.Prelude.{◌≡◌, ◌⊎◌, ◌==◌, ◌≤◌, ◌<◌, ◌+◌, ◌*◌, ◌-◌, ◌/◌, ◌%◌, ◌^◌, ⊤, ℕ, Bool, true, false, not, if◌then◌else◌, nat_lt, List, [], ◌∷◌, ◌++◌}
+use Rattle.std.specs.Prelude.{◌≡◌, ◌⊎◌, ◌==◌, ◌≤◌, ◌<◌, ◌+◌, ◌*◌, ◌-◌, ◌/◌, ◌%◌, ◌^◌, ⊤, ℕ, Bool, true, false, not, ◌||◌, if◌then◌else◌, nat_lt, List, [], ◌∷◌, ◌++◌}
 use Rattle.std.specs.Prelude.{Option, None, Some, Contains, length, option_map}
 use Rattle.std.specs.List.{list_any}
 use Rattle.rly_folder.specs.FolderCalls.{Did, Faulted, ListNames, Makes, ReadFile, Refrained, Remove, Rename, Sync}
@@ -78,20 +78,30 @@ destination_in [] = None
 destination_in (high ∷ []) = None
 destination_in (high ∷ low ∷ rest) = Some (high * 256 + low)
 
--- the area of `refused/` of a payload with this destination, whether it has a route, and whether it is too long: none
--- if the station takes it
-abbrev pub reason_for : (ℕ → Bool) → Bool → Option ℕ → Option Area
-reason_for routed too_long None = Some TooShort
-reason_for routed too_long (Some destination) =
-    if not (routed destination) then Some NoRoute else if too_long then Some TooLong else None
+-- the area of `refused/` of a payload with this destination that the station has no hop for
+abbrev pub astray : Option ℕ → Area
+astray None = TooShort
+astray (Some destination) = NoRoute
+
+-- the area of `refused/` of a payload with this destination, whether the station has a hop for it, and whether it is too
+-- long: none if the station takes it
+abbrev pub reason_for : (led too_long : Bool) → Option ℕ → Option Area
+reason_for led too_long destination =
+    if not led then Some (astray destination) else if too_long then Some TooLong else None
 
 abbrev pub is_routed : List ℕ → ℕ → Bool
 is_routed routes destination = list_any (λ route. route == destination) routes
 
--- the reason for which a station with these routes and this longest payload refuses a payload for good
-abbrev pub reason_of : List ℕ → ℕ → List ℕ → Option Area
-reason_of routes longest payload =
-    reason_for (is_routed routes) (nat_lt longest (length payload)) (destination_in payload)
+-- a station that takes what these routes lead, and the rest or not, has a hop for a payload with this destination
+abbrev pub is_led : List ℕ → (rest : Bool) → Option ℕ → Bool
+is_led routes rest None = rest
+is_led routes rest (Some destination) = is_routed routes destination || rest
+
+-- the reason for which such a station, with this longest payload, refuses a payload for good
+abbrev pub reason_of : List ℕ → (rest : Bool) → ℕ → List ℕ → Option Area
+reason_of routes rest longest payload =
+    let destination = destination_in payload in
+    reason_for (is_led routes rest destination) (nat_lt longest (length payload)) destination
 
 -- a file gets the next number of an area, durably; or it wasn't there
 abbrev pub Moves : {D : Type 0} → (D → FolderState) → Name → Area → ℕ → Option ℕ → D → D → Type 0

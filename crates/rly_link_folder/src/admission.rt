@@ -1,14 +1,15 @@
 // The datagrams that a station refuses for good, and those that its files become.
 ghost use Rattle.std.specs.Prelude.{◌≡◌, ◌≤◌, ◌+◌, ◌++◌, length, take};
-ghost use Rattle.rly_link_folder.specs.InboxCalls.{destination_bytes, destination_in, is_routed, reason_of};
+ghost use Rattle.rly_link_folder.specs.InboxCalls.{astray, destination_bytes, destination_in};
 
 use rly_folder::Area;
 
-/// The datagrams that a station takes: those whose destination has a route and that aren't too long. The payload of a
-/// file's datagram is the file, behind the two bytes of a destination if there is one for all files.
+/// The datagrams that a station takes: those whose destination has a route, or all if it takes the rest, that aren't too
+/// long. The payload of a file's datagram is the file, behind the two bytes of a destination if there is one for all files.
 #[derive(Drop)]
 pub struct Admission {
     routes: Vec<u16>,
+    rest: bool,
     longest: u16,
     destination: Option<u16>,
 }
@@ -23,18 +24,33 @@ fn destination_in(payload: &[u8]) -> Option<u16>
     Some(u16::from(payload[0]) * 256 + u16::from(payload[1]))
 }
 
-impl Admission {
-    ghost use Rattle.rly_link_folder.specs.Inbox.{destination_of, longest_of, payload_in, routes_of};
+/// Returns the area of `refused/` for a payload with this destination that the station has no hop for.
+fn astray(destination: Option<u16>) -> Area
+    ensures { result ≡ astray destination }
+{
+    match destination {
+        None => Area::TooShort,
+        Some(_) => Area::NoRoute,
+    }
+}
 
-    /// Makes it of the destinations that have a route, of the length in bytes of the longest payload, and of the destination
-    /// whose two bytes are put before each file: `None` if each file begins with its own.
-    pub fn new(routes: Vec<u16>, longest: u16, destination: Option<u16>) -> Self
+impl Admission {
+    ghost use Rattle.rly_link_folder.specs.Inbox.{destination_of, longest_of, payload_in, reason_in, routes_of};
+    ghost use Rattle.rly_link_folder.specs.Inbox.{takes_rest};
+    ghost use Rattle.rly_link_folder.specs.InboxCalls.{is_led};
+
+    /// Makes it of the destinations that have a route, of whether the station takes what no route leads, of the length in
+    /// bytes of the longest payload, and of the destination whose two bytes are put before each file: `None` if each file
+    /// begins with its own.
+    pub fn new(routes: Vec<u16>, rest: bool, longest: u16, destination: Option<u16>) -> Self
         ensures routes { routes_of result ≡ routes.items }
+        ensures rest { takes_rest result ≡ rest }
         ensures longest { longest_of result ≡ longest }
         ensures destination { destination_of result ≡ destination }
     {
         Admission {
             routes,
+            rest,
             longest,
             destination,
         }
@@ -49,13 +65,25 @@ impl Admission {
 
     /// Returns the area of `refused/` for a file whose datagram the station refuses for good.
     pub fn reason(&self, file: &[u8]) -> Option<Area>
-        ensures { result ≡ reason_of (routes_of self.now) (longest_of self.now) (payload_in self.now file.now) }
+        ensures { result ≡ reason_in self.now file.now }
     {
-        match self.destination_of(file) {
-            None => Some(Area::TooShort),
-            Some(destination) if !self.routes.contains(&destination) => Some(Area::NoRoute),
-            Some(_) if self.payload_length(file) > usize::from(self.longest) => Some(Area::TooLong),
-            Some(_) => None,
+        let destination = self.destination_of(file);
+        if !self.is_led(destination) {
+            return Some(astray(destination));
+        }
+        if self.payload_length(file) > usize::from(self.longest) {
+            return Some(Area::TooLong);
+        }
+        None
+    }
+
+    /// Returns whether the station has a hop for a payload with this destination.
+    fn is_led(&self, destination: Option<u16>) -> bool
+        ensures { result ≡ is_led (routes_of self.now) (takes_rest self.now) destination }
+    {
+        match destination {
+            None => self.rest,
+            Some(destination) => self.routes.contains(&destination) || self.rest,
         }
     }
 

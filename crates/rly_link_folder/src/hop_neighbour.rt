@@ -6,7 +6,7 @@ ghost use Rattle.rly_hop.specs.Receiving.{receiver, take_reply};
 ghost use Rattle.rly_hop.specs.Spelling.{IsMessage, IsStation, spelling, write_refusal};
 ghost use Rattle.rly_link.specs.LinkHistory.{message_in};
 ghost use Rattle.rly_folder.specs.FolderModel.{file_with};
-ghost use Rattle.rly_link_folder.specs.HopNeighbour.{after_reply, data_of, next_reply, reply_of, with_custody, with_refused, with_reply};
+ghost use Rattle.rly_link_folder.specs.HopNeighbour.{after_reply, data_of, next_reply, offered, reply_of, with_custody, with_refused, with_reply};
 
 use crate::Outbox;
 use crate::messages::{message_of, write_packet};
@@ -20,7 +20,7 @@ use std::marker::Model;
 struct Replies {
     custody: Option<u64>,
     refused: Option<(u64, u8)>,
-    /// A Data was refused since the last Custody, as the folder was full.
+    /// A Data was refused since room was last offered, as the folder was full.
     full: bool,
 }
 
@@ -115,7 +115,7 @@ impl<F: Folder> HopNeighbour<F> {
     }
 
     /// Makes a Custody of the greatest number wait, which nobody asked for, if the hop was told that the folder is full and
-    /// now there is room: so the hop learns of it. A call that failed changes nothing.
+    /// now there is room: so the hop learns of it, whatever it was answered in between. A call that failed changes nothing.
     pub fn offer(&mut self)
         ensures { Offers F.state self.old self.new }
     {
@@ -123,7 +123,7 @@ impl<F: Folder> HopNeighbour<F> {
             return;
         }
         match self.outbox.has_room() {
-            Ok(true) => self.replies.add_custody(self.outbox.greatest()),
+            Ok(true) => self.replies.offer(self.outbox.greatest()),
             Ok(false) => {}
             Err(_) => {}
         }
@@ -200,6 +200,13 @@ impl Replies {
         ensures { self.new ≡ with_custody self.old last }
     {
         self.custody = Some(last);
+    }
+
+    /// Offers the room of the folder.
+    fn offer(&mut self, last: u64)
+        ensures { self.new ≡ offered self.old last }
+    {
+        self.custody = Some(last);
         self.full = false;
     }
 
@@ -207,7 +214,7 @@ impl Replies {
         ensures { self.new ≡ with_refused self.old number refusal }
     {
         self.refused = Some((number, refusal));
-        self.full = refusal == 6;
+        self.full |= refusal == 6;
     }
 
     /// Adds a message, if there is one.

@@ -2,8 +2,7 @@
 
 ghost use Rattle.std.specs.Prelude.{◌≡◌, ◌⊎◌, ◌≤◌, ◌+◌, List, Some, take, ℕ};
 ghost use Rattle.rly_hop.specs.Spelling.{spelling};
-ghost use Rattle.rly_link_folder.specs.Inbox.{custody_of, longest_of, payload_in, routes_of};
-ghost use Rattle.rly_link_folder.specs.InboxCalls.{reason_of};
+ghost use Rattle.rly_link_folder.specs.Inbox.{custody_of, longest_of, reason_in};
 ghost use Rattle.rly_link_folder.specs.declared.admission.Admission.{Admission};
 ghost use Rattle.rly_link_folder.specs.PeerData.{IsNumbered};
 ghost use Rattle.rly_link_folder.specs.PeerNeighbour.{GivesPacket, Peer, question};
@@ -23,6 +22,5 @@ pub fn law_gives<F: Folder>(_folder: &F)
 /// whole file does.
 pub fn law_judges()
     ensures { (rules : Admission) (file : List ℕ)
-        → reason_of (routes_of rules) (longest_of rules) (payload_in rules (take (longest_of rules + 2) file))
-        ≡ reason_of (routes_of rules) (longest_of rules) (payload_in rules file) }
+        → reason_in rules (take (longest_of rules + 2) file) ≡ reason_in rules file }
 {}

@@ -1,8 +1,8 @@
 -- A worker that sleeps though a datagram was stored has a ring, or one is on its way.
 use Rattle.std.proofs.Common.{◌≡◌, ◌∙◌, ◌⊎◌, ◌≤◌, ◌+◌, ◌++◌, ℕ, zero, suc, true, false, List, [], ◌∷◌, refl, inl, inr, ap, arith, subst, sym, true≢false}
 use Rattle.std.specs.List.{AllByRecursion}
-use Rattle.rly_link_udp.specs.Bells.{Bell, BellStep, Word, HasRing, Keeps, bell_step, bell_steps, on_begin, on_ring, owed_on_store}
-use Rattle.rly_link_udp.specs.Bells.{Idle, Listening, Waiting, Woken, Listens, Begins, Ends, Stores, Rings}
+use Rattle.rly_link_udp.specs.Bells.{Bell, BellStep, HasRing, Keeps, bell_step, bell_steps, on_begin, on_ring, owed_on_store}
+use Rattle.rly_link_udp.specs.Bells.{Listening, Waiting, Woken, Listens, Begins, Ends, Stores, Rings}
 
 -- a datagram was stored since the worker asked
 abbrev Stored : Bell → Type 0

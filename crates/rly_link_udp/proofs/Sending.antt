@@ -23,6 +23,9 @@ use Rattle.rly_link_auth.specs.contracts.sealed.Sealed.TheInside as Inside
 use Rattle.rly_link_auth.specs.contracts.station_link.StationLink as Station
 use Rattle.rly_link_auth.specs.contracts.station_link.StationLinkLink.TheImpl as StationImpl
 use Rattle.rly_station.specs.contracts.failed_calls.FailedCalls as FailedCalls
+use Rattle.rly_link_log.specs.contracts.back_routes.BackRoutes as BackRoutes
+use Rattle.rly_link_log.specs.contracts.link_log.LinkLog as LinkLog
+use Rattle.rly_link_log.specs.contracts.source_log.SourceLog as SourceLog
 use Rattle.rly_link_udp.specs.contracts.socket_link.SocketLink as SocketLink
 use Rattle.rly_link_udp.specs.contracts.udp_link.UdpLink as UdpLink
 use Rattle.rly_link_udp.specs.contracts.udp_link.UdpLinkLink.TheImpl as Impl
@@ -35,6 +38,18 @@ sends_send = search (sendable, crosses, the_send) depth 30
 tags_send : IsSend WrongTags.the_field.row
 tags_send = search (sendable, crosses, the_send) depth 30
 
+backs_send : IsSend BackRoutes.the_field.row
+backs_send = search (sendable, crosses) depth 60
+
+log_send : IsSend LinkLog.the_field.row
+log_send =
+    let log : Declared = LinkLog.the_type in
+    let fields : AllSend (rows log.parts) = (search sendable depth 20, (search sendable depth 20, (search sendable depth 20, (search sendable depth 20, (backs_send, (search sendable depth 30, (search sendable depth 30, (search sendable depth 40, (search sendable depth 40, (search (sendable, crosses, the_send) depth 30, tt)))))))))) in
+    struct_send (shape log) fields
+
+sources_send : IsSend SourceLog.the_field.row
+sources_send = search (sendable, crosses, the_send) depth 40
+
 unsent_send : IsSend Unsent.the_field.row
 unsent_send = search (sendable, crosses, the_send) depth 30
 
@@ -42,7 +57,7 @@ pub udp_send : (C : RattleType) → IsSend C → IsSend (UdpLink.the_row C)
 udp_send C c =
     let udp : Declared = UdpLink.the_type C in
     let fields : AllSend (rows udp.parts) =
-    (search (sendable, crosses) depth 20, (search (sendable, crosses) depth 20, (search (sendable, c) depth 20, (search sendable depth 20, (search (sendable, crosses) depth 20, (search sendable depth 20, (search (sendable, crosses, sends_send) depth 20, (search (sendable, crosses) depth 60, (search (sendable, crosses) depth 20, (search (sendable, crosses) depth 20, (search (sendable, crosses, unsent_send) depth 20, (search (sendable, crosses) depth 20, tt)))))))))))) in
+    (search (sendable, crosses) depth 20, (search (sendable, crosses) depth 20, (search (sendable, c) depth 20, (search sendable depth 20, (search (sendable, crosses) depth 20, (search sendable depth 20, (search (sendable, crosses, sends_send) depth 20, (search (sendable, crosses) depth 60, (search (sendable, crosses) depth 20, (search (sendable, crosses) depth 20, (search (sendable, crosses, unsent_send) depth 20, (search (sendable, crosses) depth 20, (search (sendable, crosses, sources_send) depth 20, tt))))))))))))) in
     recorded_send (Struct (shape udp)) udp.D udp.to udp.to_one (struct_send (shape udp) fields)
 
 key_send : IsSend Key.the_row
@@ -97,5 +112,5 @@ socket_send C g c =
     let told = Impl.ghosts C g Impl.no_dict Impl.no_dict in
     let station = station_send socket told (udp_send C c) in
     let ahead = ahead_send (Station.the_row socket told) (StationImpl.ghosts socket told StationImpl.no_dict) station in
-    let fields : AllSend (rows link.parts) = (ahead, (tags_send, (search sendable depth 20, tt))) in
+    let fields : AllSend (rows link.parts) = (ahead, (tags_send, (log_send, (c, (search sendable depth 20, tt))))) in
     struct_send (shape link) fields

@@ -1,6 +1,7 @@
 -- The duty of a worker's link to a socket, and of its clock.
 use Rattle.std.specs.Prelude.{ℕ, ◌==◌, nat_lt, if◌then◌else◌, Bool, false, is_some, List, [], map, option_and_then, Option, None, Some}
-use Rattle.std.specs.Option.{option_map}
+use Rattle.std.specs.Option.{is_none, option_map}
+use Rattle.rly_plan.specs.ContactPlan.{ContactPlan}
 use Rattle.rly_plan_syntax.specs.Endpoints.{Endpoints}
 use Rattle.rly_hop.specs.declared.message.StationId.{StationId}
 use Rattle.rly_link.specs.declared.turn.Worker.{Worker}
@@ -8,6 +9,8 @@ use Rattle.rly_link.specs.declared.turn.Worker.TheVariants as worker
 use Rattle.rly_link_auth.specs.Keys.{Keys}
 use Rattle.rly_link_auth.specs.StationLink.{keys_over, link_below}
 use Rattle.rly_link_udp.specs.FolderWatch.{path_of, seen_of, unseen}
+use Rattle.rly_link_log.specs.BackRoutes.{back_routes}
+use Rattle.rly_link_log.specs.LinkLog.{LinkView, link_view, new_link_view}
 use Rattle.rly_link_udp.specs.LinkReorder.{reorder_for}
 use Rattle.rly_station.specs.Warnings.{KnownFailures, known_of, none_yet}
 use Rattle.rly_station.specs.declared.warning.SystemCall.TheVariants.{Send}
@@ -38,13 +41,15 @@ longest_until (worker.Sender hop) = None
 abbrev pub link_addresses : {C : Type 0} → UdpLink C → Option Endpoints
 link_addresses link = option_map (λ a. a.value) link.addresses
 
--- a link at a socket: its addresses, keys and reorder buffer, its failed sends so far, and the owner of its wrong tags
+-- a link at a socket: its addresses, keys and reorder buffer, its failed sends so far, the owner of its wrong tags, and the log
+-- of what stops it
 pub record SocketDuty : Type 0 where
   pub addresses : Option Endpoints
   pub keys : Option Keys
   pub keeps : LinkReorder
   pub failures : Option KnownFailures
   pub tags : Worker
+  pub log : LinkView
 
 abbrev pub reorder_of_link : {C : Type 0} → SocketLink C → LinkReorder
 reorder_of_link l = record { own = l.link.own; peer = l.link.peer; early = l.link.early }
@@ -56,17 +61,23 @@ socket_duty l = record {
   keeps = reorder_of_link l;
   failures = option_map known_of (link_below l.link.link).failed_sends;
   tags = l.wrong_tags.worker;
+  log = link_view l.log;
 }
 
--- of a worker of one station whose neighbour is another, at these addresses, with the key if there is one, and this maximum
--- length of a buffered packet: it warns of its own link
-abbrev pub socket_duty_of : Worker → (own peer : StationId) → Endpoints → Option Keys → (longest : ℕ) → SocketDuty
-socket_duty_of w own peer addresses keys longest = record {
+-- the station of a plan
+abbrev pub own_station : ContactPlan → StationId
+own_station plan = record { 0 = plan.station }
+
+-- of a worker of a plan's station whose neighbour is another, at these addresses, with the key if there is one, and this maximum
+-- length of a buffered packet: it warns of its own link, of which nothing came yet
+abbrev pub socket_duty_of : Worker → ContactPlan → (peer : StationId) → Endpoints → Option Keys → (longest : ℕ) → SocketDuty
+socket_duty_of w plan peer addresses keys longest = record {
   addresses = Some addresses;
   keys = keys;
-  keeps = reorder_for own peer longest w;
+  keeps = reorder_for (own_station plan) peer longest w;
   failures = Some (none_yet (Send w));
   tags = w;
+  log = new_link_view w (own_station plan) peer (is_none keys) (back_routes plan w peer);
 }
 
 -- whether a clock watches the wall clock, with the last readings

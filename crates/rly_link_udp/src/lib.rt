@@ -2,10 +2,11 @@
 //!
 //! `socket_link_of` opens the link of a worker to a socket (`specs/LinkDuties.antt`), with
 //! authentication if there is a key, and a reorder buffer for peers. It counts and logs failed
-//! sends and wrong tags. `bell_of` opens what ends the waits of a link to a folder. A `WallClock`
-//! reads the system's clocks and ends a worker after its turns (`specs/WallClock.antt`), and that of
-//! the first peer looks once a second at the times of all folders (`specs/FolderWatch.antt`);
-//! `Bells` end the waits of workers. Callers: `rly_posts` and `rly_daemon`.
+//! sends, wrong tags, and what else stops it (`rly_link_log`). `bell_of` opens what ends the
+//! waits of a link to a folder. A `WallClock` reads the system's clocks and ends a worker after its
+//! turns (`specs/WallClock.antt`), and that of the first peer looks once a second at the times of all
+//! folders (`specs/FolderWatch.antt`); `Bells` end the waits of workers. Callers: `rly_posts` and
+//! `rly_daemon`.
 #![tactic(auto)]
 
 mod bells;

@@ -11,10 +11,12 @@ use crate::socket_link::SocketLink;
 use crate::udp_link::UdpLink;
 use crate::unsent::Unsent;
 use crate::worker_clock::is_first;
+use crate::wrong_tags::WrongTags;
 use rly_hop::StationId;
 use rly_link::Worker;
 use rly_link_auth::{Key, TAG_BYTES};
-use rly_plan::Addresses;
+use rly_link_log::{BackRoutes, LinkLog, SourceLog};
+use rly_plan::{Addresses, Plan};
 use rly_station::{
     AddressFault, End, EndFault, FailedCalls, ServeFault, SystemCall, wanted_buffer,
 };
@@ -32,12 +34,12 @@ const WATCHING_WAIT: u64 = 1_000_000;
 /// The longest wait of a receiver at a folder in which something is to be tried again, in microseconds.
 const TRYING_WAIT: u64 = 1_000_000;
 
-/// The link of a worker of station `own` to the station `peer` at a socket. It is sealed if there is a key, and has a
+/// The link of a worker of a plan's station to the station `peer` at a socket. It is sealed if there is a key, and has a
 /// reorder buffer for a peer's packets of up to `longest` bytes. Its waits end by the worker's bell, and are bounded if the
 /// worker has a number of turns or watches the wall clock.
 pub fn socket_link_of<'a, H: AllocGlobal + Net + Clock>(
     rt: &'a H,
-    own: StationId,
+    plan: &Plan,
     peer: StationId,
     worker: Worker,
     addresses: &Addresses,
@@ -47,14 +49,17 @@ pub fn socket_link_of<'a, H: AllocGlobal + Net + Clock>(
     signals: &Signals,
 ) -> Result<SocketLink<&'a H>, ServeFault>
     ensures { IfOk result
-        (λ link. socket_duty link ≡ socket_duty_of worker own peer addresses.now key longest) }
+        (λ link. socket_duty link ≡ socket_duty_of worker plan.now peer addresses.now key longest) }
 {
-    let teller = signals.logger()?;
+    let wrong_tags = WrongTags::new(worker, signals.logger()?);
+    let own = StationId(plan.station());
+    let backs = BackRoutes::new(rt.alloc(), plan, worker, peer)?;
+    let log = LinkLog::new(worker, own, peer, key.is_none(), backs, signals.logger()?);
     let unsent = unsent_of(rt.alloc(), worker, longest)?;
     let socket = socket_of(rt, rt.alloc(), worker, addresses, turns, signals)?.with_unsent(unsent);
     let buffer = buffer_of(worker, &socket, longest);
     let keeping = LinkReorder::new(rt.alloc(), own, peer, worker, longest)?;
-    Ok(SocketLink::new(socket, key, worker, teller, keeping, buffer))
+    Ok(SocketLink::new(socket, key, keeping, wrong_tags, log, rt, buffer))
 }
 
 /// The bell of a worker's link to a folder. Its waits end by an empty packet to its address and by the worker's own bell, and
@@ -93,14 +98,17 @@ fn socket_of<'a, H: Net + Clock>(
 {
     let bells = signals.bells()?;
     let teller = signals.logger()?;
+    let source_teller = signals.logger()?;
     match UdpLink::open(rt, rt, addresses) {
         Ok(socket) => {
             let failed_sends = FailedCalls::new(SystemCall::Send(worker), teller);
+            let sources = SourceLog::new(worker, socket.remote(), source_teller);
             Ok(
                 socket
                     .with_bell(bells, worker)
                     .with_longest_wait(longest_wait(worker, turns))
-                    .with_failed_sends(failed_sends),
+                    .with_failed_sends(failed_sends)
+                    .with_sources(sources),
             )
         }
         Err(fault) => Err(fault_of_link(alloc, worker, addresses, fault)),

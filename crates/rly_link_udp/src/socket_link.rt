@@ -1,58 +1,67 @@
-//! The link to a neighbour at a socket with all its layers: logs failed sends and wrong tags, and
-//! has a reorder buffer.
+//! The link to a neighbour at a socket with all its layers: logs failed sends, wrong tags and what
+//! else stops it, and has a reorder buffer.
 
 ghost use Rattle.std.specs.Prelude.{◌≡◌, ◌↔◌, IsTrue, IsNone};
 ghost use Rattle.rly_link_reorder.specs.ReorderedLink.{new_reordered};
 ghost use Rattle.rly_link_auth.specs.StationLink.{keys_over, station_link};
 ghost use Rattle.rly_link_udp.specs.LinkDuties.{link_addresses, socket_duty};
+ghost use Rattle.rly_link_log.specs.LinkLog.{link_view};
 ghost use Rattle.rly_station.specs.Warnings.{known_of};
 ghost use Rattle.std.specs.Option.{option_map};
 
 use crate::link_reorder::LinkReorder;
 use crate::udp_link::UdpLink;
 use crate::wrong_tags::WrongTags;
-use rly_link::{Link, LinkFault, Sleep, Worker};
+use rly_link::{Link, LinkFault, Sleep};
 use rly_link_auth::{Key, MeteredLink, StationLink};
+use rly_link_log::LinkLog;
 use rly_link_reorder::ReorderedLink;
-use rly_station::Logger;
+use rly_station::moment_of;
 use std::time::Clock;
 
 /// A link over UDP, sealed if it has a key, with a reorder buffer over the authenticated packets. It logs packets
-/// of a wrong tag; the socket's link logs failed sends.
+/// of a wrong tag and what else its packets show of what stops it; the socket's link logs failed sends, and packets from
+/// another address.
 #[derive(Drop)]
 pub struct SocketLink<C: Clock + Drop> {
     link: ReorderedLink<StationLink<UdpLink<C>>>,
     wrong_tags: WrongTags,
+    log: LinkLog,
+    clock: C,
     /// The bytes of its receive buffer, if one was requested and the system says how many.
     buffer: Option<u32>,
 }
 
 impl<C: Clock + Drop> SocketLink<C> {
-    /// The link of a worker over a socket, sealed with a key if there is one. The size of its receive buffer is in
-    /// bytes, if it is known.
+    /// A link over a socket, sealed with a key if there is one, with its logs and the clock of these. The size of its
+    /// receive buffer is in bytes, if it is known.
     pub(crate) fn new(
         socket: UdpLink<C>,
         key: Option<Key>,
-        worker: Worker,
-        teller: Logger,
         keeping: LinkReorder,
+        wrong_tags: WrongTags,
+        log: LinkLog,
+        clock: C,
         buffer: Option<u32>,
     ) -> SocketLink<C>
         ensures link { result.link ≡ new_reordered (station_link socket key) keeping.own keeping.peer keeping.early }
-        ensures worker { result.wrong_tags.worker ≡ worker }
+        ensures logs { (result.wrong_tags ≡ wrong_tags) × (result.log ≡ log) }
         ensures buffer { result.buffer ≡ buffer }
         ensures duty { socket_duty result ≡ record {
           addresses = link_addresses socket;
           keys = key;
           keeps = keeping;
           failures = option_map known_of socket.failed_sends;
-          tags = worker;
+          tags = wrong_tags.worker;
+          log = link_view log;
         } }
     {
         let LinkReorder { own, peer, early } = keeping;
         SocketLink {
             link: ReorderedLink::new(StationLink::new(socket, key), own, peer, early),
-            wrong_tags: WrongTags::new(worker, teller),
+            wrong_tags,
+            log,
+            clock,
             buffer,
         }
     }
@@ -62,6 +71,11 @@ impl<C: Clock + Drop> SocketLink<C> {
         ensures { result ≡ self.now.buffer }
     {
         self.buffer
+    }
+
+    /// The moment of the monotonic clock.
+    fn moment(&self) -> u64 {
+        moment_of(self.clock.monotonic().ok())
     }
 
     /// Whether it is unauthenticated.
@@ -90,10 +104,10 @@ impl<C: Clock + Drop> MeteredLink for SocketLink<C> {
 }
 
 impl<C: Clock + Drop> Link for SocketLink<C> {
-    ghost use Rattle.std.specs.Prelude.{◌≡◌, ◌≤◌, ◌∷◌, ◌++◌, [], IfOk, IfSome, OnErr, OnOk, length};
+    ghost use Rattle.std.specs.Prelude.{◌≡◌, ◌≤◌, ◌∷◌, [], ℕ, IfOk, IfSome, OnErr, OnOk, length};
     ghost use Rattle.rly_link_udp.specs.SocketLink.{socket_failed, socket_heard, socket_sent};
-    ghost use Rattle.rly_link_udp.specs.WrongTags.{tag_warnings};
-    ghost use Rattle.rly_station.specs.Warnings.{logged_warnings};
+    ghost use Rattle.rly_link_log.specs.LinkLog.{HasNotedReceive, HasNotedSent};
+    ghost use Rattle.rly_link_udp.specs.WrongTags.{HasNotedTags};
     ghost use Rattle.rly_link_auth.specs.StationLink.{wrong_tags};
     ghost use Rattle.rly_link.specs.LinkHistory.{FailuresRose, TellsMore, new_hearing, packet_of};
 
@@ -110,13 +124,20 @@ impl<C: Clock + Drop> Link for SocketLink<C> {
         ensures sent { socket_sent self.new ≡ socket_sent self.old }
         ensures rise { OnErr result (FailuresRose (socket_failed self.old) (socket_failed self.new)) }
         ensures no_failure { OnOk result (socket_failed self.new ≡ socket_failed self.old) }
-        ensures whose { self.new.wrong_tags.worker ≡ self.old.wrong_tags.worker }
-        ensures told { logged_warnings self.new.wrong_tags.teller ≡ logged_warnings self.old.wrong_tags.teller
-            ++ tag_warnings self.old.wrong_tags.worker (wrong_tags self.old.link.link) (wrong_tags self.new.link.link) }
+        // A wrong tag is counted and logged if due, and so is what a packet shows.
+        ensures noted { (now : ℕ)
+            × HasNotedTags (wrong_tags self.old.link.link) (wrong_tags self.new.link.link) now
+            self.old.wrong_tags self.new.wrong_tags
+            × HasNotedReceive (packet_of result buffer.new) now self.old.log self.new.log }
     {
         let before = self.link.link().wrong_tags();
         let outcome = self.link.recv(sleep, buffer);
-        self.wrong_tags.note(before, self.link.link().wrong_tags());
+        let now = self.moment();
+        self.wrong_tags
+            .note(before, self.link.link().wrong_tags(), now);
+        if let Ok(Some(count)) = outcome {
+            self.log.hear(&buffer[..count], now);
+        }
         outcome
     }
 
@@ -126,7 +147,11 @@ impl<C: Clock + Drop> Link for SocketLink<C> {
         ensures rise { OnErr result (FailuresRose (socket_failed self.old) (socket_failed self.new)) }
         ensures no_failure { OnOk result (socket_failed self.new ≡ socket_failed self.old) }
         ensures quiet { self.new.wrong_tags ≡ self.old.wrong_tags }
+        // What the packet shows is counted, and logged if due, even if the send fails.
+        ensures noted { (now : ℕ) × HasNotedSent packet.now now self.old.log self.new.log }
     {
+        let now = self.moment();
+        self.log.send(packet, now);
         self.link.send(packet)
     }
 

@@ -8,6 +8,7 @@ use crate::unsent::Unsent;
 use libc::net::{POLLIN, POLLOUT, poll};
 use libc::types::pollfd;
 use rly_link::{Link, LinkFault, Sleep, Worker};
+use rly_link_log::SourceLog;
 use rly_plan::Addresses;
 use rly_station::{End, EndFault, FailedCalls, SystemWord, moment_of};
 use std::alloc::Global;
@@ -68,6 +69,8 @@ pub struct UdpLink<C: Clock + Drop> {
     unsent: Option<Unsent>,
     /// The addresses at which it was opened: none of a bell.
     addresses: Option<Snapshot<Addresses>>,
+    /// The log of packets from another address than `remote`, if they are logged.
+    sources: Option<SourceLog>,
 }
 
 impl<C: Clock + Drop> UdpLink<C> {
@@ -114,12 +117,20 @@ impl<C: Clock + Drop> UdpLink<C> {
             longest_until: None,
             unsent: None,
             addresses: None,
+            sources: None,
         }
     }
 
     /// The address on which it receives.
     pub fn address(&self) -> io::Result<SocketAddr> {
         self.socket.local_addr()
+    }
+
+    /// The address to which it sends.
+    pub(crate) fn remote(&self) -> SocketAddr
+        ensures { result ≡ self.now.remote }
+    {
+        self.remote
     }
 
     /// The same, whose waits end by the bell of a worker.
@@ -169,9 +180,31 @@ impl<C: Clock + Drop> UdpLink<C> {
         self
     }
 
+    /// The same, with a log of packets from another address.
+    pub(crate) fn with_sources(mut self, sources: SourceLog) -> UdpLink<C>
+        ensures { result ≡ record self { sources = Some sources } }
+    {
+        self.sources = Some(sources);
+        self
+    }
+
+    /// A packet came from an address.
+    fn note_source(&mut self, from: SocketAddr)
+        ensures { self.new ≡ record self.old { sources = self.new.sources } }
+    {
+        let now = moment_of(self.clock.monotonic().ok());
+        if let Some(sources) = &mut self.sources {
+            sources.note(from, now);
+        }
+    }
+
     /// Receives once. If no packet is there, waits at most this long for one, unless it was woken since its last wait.
-    fn receive_waiting(&mut self, sleep: Sleep, buffer: &mut [u8]) -> io::Result<Option<usize>>
-        ensures bound { IfOk result (λ found. IfSome found (λ count. count ≤ length buffer.new)) }
+    fn receive_waiting(
+        &mut self,
+        sleep: Sleep,
+        buffer: &mut [u8],
+    ) -> io::Result<Option<(usize, SocketAddr)>>
+        ensures bound { IfOk result (λ found. IfSome found (λ packet. packet.0 ≤ length buffer.new)) }
         ensures same { self.new ≡ record self.old { unsent = self.new.unsent } }
         ensures spent { self.old.failures ≡ 2 ^ 64 - 1 → IsErr result }
     {
@@ -319,18 +352,18 @@ impl<C: Clock + Drop> UdpLink<C> {
         self.failures == u64::MAX
     }
 
-    /// Receives once without a wait: a packet, or nothing if none has arrived. Fails if the count of failures is at its
-    /// last value.
-    fn receive(&self, buffer: &mut [u8]) -> io::Result<Option<usize>>
-        ensures bound { IfOk result (λ found. IfSome found (λ count. count ≤ length buffer.new)) }
+    /// Receives once without a wait: a packet and its sender's address, or nothing if none has arrived. Fails if the
+    /// count of failures is at its last value.
+    fn receive(&self, buffer: &mut [u8]) -> io::Result<Option<(usize, SocketAddr)>>
+        ensures bound { IfOk result (λ found. IfSome found (λ packet. packet.0 ≤ length buffer.new)) }
         ensures spent { self.now.failures ≡ 2 ^ 64 - 1 → IsErr result }
     {
         if self.is_spent() {
             return Err(io::Error::from(ErrorKind::Other));
         }
-        match self.socket.recv(buffer) {
-            Ok(0) => Ok(None),
-            Ok(count) => Ok(Some(count)),
+        match self.socket.recv_from(buffer) {
+            Ok((0, _)) => Ok(None),
+            Ok(packet) => Ok(Some(packet)),
             Err(error) if is_silence(error.kind()) => Ok(None),
             Err(error) => Err(error),
         }
@@ -384,7 +417,8 @@ impl<C: Clock + Drop> Link for UdpLink<C> {
         // The contact may end before the next wait.
         drop_packet(&mut self.unsent);
         match outcome {
-            Ok(Some(count)) => {
+            Ok(Some((count, from))) => {
+                self.note_source(from);
                 self.note_given(waits, began);
                 Ok(Some(count))
             }

@@ -1,44 +1,40 @@
-ghost use Rattle.std.specs.Prelude.{◌≡◌, ◌++◌};
-ghost use Rattle.rly_link_udp.specs.WrongTags.{is_tag_logged, tag_warnings};
-ghost use Rattle.rly_station.specs.Warnings.{logged_warnings};
+ghost use Rattle.std.specs.Prelude.{◌≡◌};
+ghost use Rattle.rly_link_udp.specs.WrongTags.{HasNotedTags};
+ghost use Rattle.rly_station.specs.Kinds.{no_kind};
 
 use rly_link::Worker;
-use rly_station::{Logger, Warning};
+use rly_station::{KindCount, Logger, Warning};
 
-/// The number of packets with a wrong tag per log line, after the first.
-const LOGGED_EVERY: u64 = 1_000;
-
-/// Logs the packets with a wrong tag of a worker's link.
+/// Logs the packets with a wrong tag of a worker's link: the first, and each thousandth.
 #[derive(Drop)]
 pub(crate) struct WrongTags {
     worker: Worker,
+    kind: KindCount,
     teller: Logger,
 }
 
 impl WrongTags {
+    /// None yet.
     pub(crate) fn new(worker: Worker, teller: Logger) -> WrongTags
-        ensures { result ≡ record { worker = worker; teller = teller } }
+        ensures { result ≡ record { worker = worker; kind = no_kind; teller = teller } }
     {
-        WrongTags { worker, teller }
+        WrongTags {
+            worker,
+            kind: KindCount::new(),
+            teller,
+        }
     }
 
-    /// Their count rose from `before` to `count`, if it did: logs the first, and every thousandth.
-    pub(crate) fn note(&mut self, before: u64, count: u64)
-        ensures worker { self.new.worker ≡ self.old.worker }
-        ensures told { logged_warnings self.new.teller
-            ≡ logged_warnings self.old.teller ++ tag_warnings self.old.worker before count }
+    /// Their count rose from `before` to `count` at a moment, if it did.
+    pub(crate) fn note(&mut self, before: u64, count: u64, now: u64)
+        ensures { HasNotedTags before count now self.old self.new }
     {
-        if !is_logged(before, count) {
+        if before >= count {
             return;
         }
         let worker = self.worker;
-        self.teller.log(Warning::WrongTag { worker, count });
+        if self.kind.add(now).is_some() {
+            self.teller.log(Warning::WrongTag { worker, count });
+        }
     }
-}
-
-/// Whether a packet with a wrong tag is logged, by the counts before it and with it.
-fn is_logged(before: u64, count: u64) -> bool
-    ensures { result ≡ is_tag_logged before count }
-{
-    before < count && (count == 1 || count % LOGGED_EVERY == 0)
 }

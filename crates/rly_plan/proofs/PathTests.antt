@@ -4,7 +4,6 @@ use Rattle.std.specs.List.{list_all}
 use Rattle.rly_core.specs.declared.limits.TheConstants.{MAX_CONTACTS, MAX_HOPS, MAX_PEERS}
 use Rattle.rly_plan_syntax.specs.declared.draft.ContactDraft.{ContactDraft}
 use Rattle.rly_plan_syntax.specs.declared.draft.NeighbourDraft.{NeighbourDraft}
-use Rattle.rly_plan_syntax.specs.declared.draft.RouteDraft.{RouteDraft}
 use Rattle.rly_plan_syntax.specs.declared.far_end.FarEndDraft.{FarEndDraft}
 use Rattle.rly_plan_syntax.specs.declared.far_end.FarEndDraft.TheVariants as draft
 use Rattle.rly_plan_syntax.specs.declared.far_end.FolderDraft.{FolderDraft}
@@ -14,10 +13,11 @@ use Rattle.rly_plan_syntax.specs.declared.key_path.Row.TheVariants as row
 use Rattle.rly_plan_syntax.specs.declared.key_path.Spot.{Spot}
 use Rattle.rly_plan_syntax.specs.declared.key_path.Spot.TheVariants as spot
 use Rattle.rly_plan_syntax.specs.declared.key_path.PlanKey.TheVariants as key
+use Rattle.rly_plan_syntax.specs.declared.route.RouteDraft.{RouteDraft}
 use Rattle.rly_plan_syntax.specs.DocumentPaths.{unless}
 use Rattle.rly_plan_syntax.specs.Draft.{HopText, PlanText}
 use Rattle.rly_plan_syntax.proofs.NoPath.{none_map, none_or, none_unless}
-use Rattle.rly_plan.specs.Passes.{all_adjacent, all_numbered, are_apart, begin_in_order, contact_in_range, far_in_range, folder_in_range, hop_in_range, is_in_range, is_sorted, lead_in_range, leads_to_hops, neighbour_in_range, rate_in_range, resend_in_range, route_in_range, rows_in_range}
+use Rattle.rly_plan.specs.Passes.{all_adjacent, all_numbered, are_apart, begin_in_order, contact_in_range, destination_in_range, far_in_range, folder_in_range, hop_in_range, is_in_range, is_sorted, lead_in_range, leads_to_hops, neighbour_in_range, rate_in_range, resend_in_range, route_in_range, rows_in_range}
 use Rattle.rly_plan.specs.Numbers.{is_between, is_given_between, is_station}
 use Rattle.rly_plan.specs.KeyPaths.{apart_fault, far_range_fault, first_adjacent, first_contact, first_row, folder_range_fault, hop_range_fault, lead_fault, lead_place, neighbour_range_fault, order_fault, range_place, route_range_fault, rows_range_fault, sorted_place}
 
@@ -69,7 +69,7 @@ none_hop id h =
 
 none_route : (n : ℕ) (r : RouteDraft) → is_none (route_range_fault n r) ≡ route_in_range r
 none_route n r =
-    none_or _ _ _ _ (none_unless (is_station r.destination) (spot.At key.Destination)) (none_unless (is_between 1 MAX_HOPS r.hop) (spot.At key.Hop))
+    none_or _ _ _ _ (none_unless (destination_in_range r.destination) (spot.At key.Destination)) (none_unless (is_between 1 MAX_HOPS r.hop) (spot.At key.Hop))
 
 none_rows : {A : Type 0} (fault : ℕ → A → Option Spot) (test : ℕ → A → Bool) → ((n : ℕ) (x : A) → is_none (fault n x) ≡ test n x)
     → (row : Row) (most : ℕ) (rows : List A) → is_none (rows_range_fault fault row most rows) ≡ rows_in_range test most rows

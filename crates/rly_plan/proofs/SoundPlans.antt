@@ -11,17 +11,21 @@ use Rattle.rly_core.specs.declared.refusal.Refusal.TheVariants.{Unsorted, Overla
 use Rattle.rly_plan.specs.declared.contacts.Contact.{Contact}
 use Rattle.rly_plan_syntax.specs.declared.draft.ContactDraft.{ContactDraft}
 use Rattle.rly_plan_syntax.specs.declared.draft.NeighbourDraft.{NeighbourDraft}
-use Rattle.rly_plan_syntax.specs.declared.draft.RouteDraft.{RouteDraft}
 use Rattle.rly_plan_syntax.specs.declared.far_end.FarEndDraft.{FarEndDraft}
 use Rattle.rly_plan_syntax.specs.declared.far_end.FarEndDraft.TheVariants as draft
 use Rattle.rly_plan_syntax.specs.declared.far_end.FolderDraft.{FolderDraft}
+use Rattle.rly_plan_syntax.specs.declared.route.DestinationDraft.{DestinationDraft}
+use Rattle.rly_plan_syntax.specs.declared.route.DestinationDraft.TheVariants as to_draft
+use Rattle.rly_plan_syntax.specs.declared.route.RouteDraft.{RouteDraft}
+use Rattle.rly_plan.specs.declared.route.Destination.{Destination}
+use Rattle.rly_plan.specs.declared.route.Destination.TheVariants.{Rest, Station}
 use Rattle.rly_plan.specs.ContactPlan.{ContactPlan}
 use Rattle.rly_plan_syntax.specs.Draft.{HopText, PlanText, draft_of}
 use Rattle.rly_plan_syntax.specs.Keys.{keys_are_known}
-use Rattle.rly_plan.specs.Passes.{all_adjacent, all_numbered, are_apart, contact_from, contact_in_range, far_in_range, folder_in_range, hop_from, hop_in_range, is_in_range, is_sorted, leads_to_hops, neighbour_from, neighbour_in_range, overlaps, plan_from, plan_of_text, plan_of_document, plan_of_draft, repeats, route_from, route_in_range, rows_in_range}
+use Rattle.rly_plan.specs.Passes.{all_adjacent, all_numbered, are_apart, contact_from, contact_in_range, destination_from, destination_in_range, destination_number, far_in_range, folder_in_range, hop_from, hop_in_range, is_in_range, is_sorted, leads_to_hops, neighbour_from, neighbour_in_range, overlaps, plan_from, plan_of_text, plan_of_document, plan_of_draft, repeats, route_from, route_in_range, rows_in_range}
 use Rattle.rly_plan.specs.Numbers.{is_between, is_given_between, is_station, number, number_16, number_32}
 use Rattle.rly_plan.specs.FarEnds.{far_end_from, folder_at, folder_from}
-use Rattle.rly_plan.specs.Sound.{IsStationNumber, IsSoundFolder, IsSoundNeighbour, AreInOrder, IsSoundPlan}
+use Rattle.rly_plan.specs.Sound.{IsDestination, IsSoundFolder, IsSoundNeighbour, AreInOrder, IsSoundPlan}
 use Rattle.rly_plan.proofs.PassLemmas.{between_bounds, contact_bounds, hop_parts}
 
 -- ---- a draft that passed
@@ -140,16 +144,34 @@ neighbour_sound n p h =
     let (station, far) = and_parts (is_station p.station) (far_in_range p.far) more in
     record { station = sixteen 1 65535 p.station (omega arith) station; folder = far_sound p.far far }
 
-route_sound : (hops : ℕ) (r : RouteDraft) → hops ≤ 65535 → route_in_range r ≡ true → is_between 1 hops r.hop ≡ true → IsStationNumber (number_16 r.destination) × IsIn 1 hops (number_16 r.hop)
-route_sound hops r fits h leads = (sixteen 1 65535 r.destination (omega arith) (and_parts (is_station r.destination) (is_between 1 MAX_HOPS r.hop) h).0, sixteen 1 hops r.hop fits leads)
+destination_sound : (to : DestinationDraft) → destination_in_range to ≡ true → IsDestination (destination_from to)
+destination_sound (to_draft.Station station) h = sixteen 1 65535 station (omega arith) h
+destination_sound to_draft.Rest h = tt
+
+route_sound : (hops : ℕ) (r : RouteDraft) → hops ≤ 65535 → route_in_range r ≡ true → is_between 1 hops r.hop ≡ true → IsDestination (destination_from r.destination) × IsIn 1 hops (number_16 r.hop)
+route_sound hops r fits h leads = (destination_sound r.destination (and_parts (destination_in_range r.destination) (is_between 1 MAX_HOPS r.hop) h).0, sixteen 1 hops r.hop fits leads)
 
 routes_sound : (hops : ℕ) (rs : List RouteDraft) → hops ≤ 65535 → list_all route_in_range rs ≡ true → list_all (λ r. is_between 1 hops r.hop) rs ≡ true
-    → All (λ r. IsStationNumber r.destination × IsIn 1 hops r.hop.0) (map route_from rs)
+    → All (λ r. IsDestination r.destination × IsIn 1 hops r.hop.0) (map route_from rs)
 routes_sound hops [] fits h leads k d within = absurd (omega arith)
 routes_sound hops (r ∷ rs) fits h leads zero d within =
     route_sound hops r fits (and_parts (route_in_range r) (list_all route_in_range rs) h).0 (and_parts (is_between 1 hops r.hop) (list_all (λ r. is_between 1 hops r.hop) rs) leads).0
 routes_sound hops (r ∷ rs) fits h leads (suc k) d within =
     routes_sound hops rs fits (and_parts (route_in_range r) (list_all route_in_range rs) h).1 (and_parts (is_between 1 hops r.hop) (list_all (λ r. is_between 1 hops r.hop) rs) leads).1 k d (omega arith)
+
+-- two routes whose numbers differ have two destinations
+abbrev number_of : Destination → ℕ
+number_of (Station station) = station
+number_of Rest = 0
+
+same_number : (to : DestinationDraft) → number_of (destination_from to) ≡ destination_number to
+same_number (to_draft.Station station) = refl
+same_number to_draft.Rest = refl
+
+routes_distinct : (rs : List RouteDraft) → repeats (map (λ r. destination_number r.destination) rs) ≡ false
+    → AllPairs (λ r s. r.destination ≢ s.destination) (map route_from rs)
+routes_distinct rs once i j d order within e =
+    distinct_map (λ r. destination_number r.destination) route_from (λ r. number_of r.destination) (λ r. same_number r.destination) rs once i j d order within (ap number_of e)
 
 -- ---- contacts
 
@@ -208,9 +230,9 @@ draft_sound d ranged apart leads =
     let peers = counted_rows neighbour_in_range neighbour_from MAX_PEERS d.peers in_peers in
     let hops = counted_rows hop_in_range hop_from MAX_HOPS d.hops in_hops in
     let hop_count : length (map hop_from d.hops) ≡ length d.hops = length_of_map hop_from d.hops in
-    let (contacts, twice) = or_parts (not (list_all (λ h. all_adjacent are_apart h.contacts) d.hops)) (repeats (map (λ p. number_16 p.station) d.peers) || (repeats (map (λ h. number_16 h.neighbour.station) d.hops) || repeats (map (λ r. number_16 r.destination) d.routes))) apart in
-    let (peers_once, more) = or_parts (repeats (map (λ p. number_16 p.station) d.peers)) (repeats (map (λ h. number_16 h.neighbour.station) d.hops) || repeats (map (λ r. number_16 r.destination) d.routes)) twice in
-    let (hops_once, routes_once) = or_parts (repeats (map (λ h. number_16 h.neighbour.station) d.hops)) (repeats (map (λ r. number_16 r.destination) d.routes)) more in
+    let (contacts, twice) = or_parts (not (list_all (λ h. all_adjacent are_apart h.contacts) d.hops)) (repeats (map (λ p. number_16 p.station) d.peers) || (repeats (map (λ h. number_16 h.neighbour.station) d.hops) || repeats (map (λ r. destination_number r.destination) d.routes))) apart in
+    let (peers_once, more) = or_parts (repeats (map (λ p. number_16 p.station) d.peers)) (repeats (map (λ h. number_16 h.neighbour.station) d.hops) || repeats (map (λ r. destination_number r.destination) d.routes)) twice in
+    let (hops_once, routes_once) = or_parts (repeats (map (λ h. number_16 h.neighbour.station) d.hops)) (repeats (map (λ r. destination_number r.destination) d.routes)) more in
     record {
       station = sixteen 1 65535 d.station (omega arith) station;
       peer_count = peers.0;
@@ -223,7 +245,7 @@ draft_sound d ranged apart leads =
       routes = rw hop_count (routes_sound (length d.hops) d.routes (omega (arith, hops.0, hop_count)) in_routes leads);
       one_peer_a_station = distinct_map (λ p. number_16 p.station) neighbour_from (λ p. p.station) (λ p. refl) d.peers peers_once;
       one_hop_a_station = distinct_map (λ h. number_16 h.neighbour.station) hop_from (λ h. h.neighbour.station) (λ h. refl) d.hops hops_once;
-      one_route_a_destination = distinct_map (λ r. number_16 r.destination) route_from (λ r. r.destination) (λ r. refl) d.routes routes_once;
+      one_route_a_destination = routes_distinct d.routes routes_once;
     }
 
 -- every plan of a text is sound

@@ -1,13 +1,16 @@
 -- The model of a plan, and its readers.
-use Rattle.std.specs.Prelude.{ℕ, zero, suc, ◌-◌, ◌/◌, ◌==◌, nat_le, if◌then◌else◌, Bool, List, [], Option, None, option_map}
-use Rattle.std.specs.Prelude.{unwrap_or, find, slice_get}
+use Rattle.std.specs.Prelude.{ℕ, zero, suc, ◌+◌, ◌*◌, ◌-◌, ◌/◌, ◌==◌, nat_le, if◌then◌else◌, Bool, true, false, List, [], ◌∷◌}
+use Rattle.std.specs.Prelude.{Option, Some, None, option_and_then, option_map, unwrap_or, find, slice_get}
+use Rattle.std.specs.Option.{option_or}
 use Rattle.rly_core.specs.declared.ids.HopId.{HopId}
 use Rattle.rly_core.specs.declared.ids.PeerId.{PeerId}
 use Rattle.rly_core.specs.declared.limits.TheConstants.{DEFAULT_RESEND, MOMENT_LIMIT}
 use Rattle.rly_plan.specs.declared.contacts.Contact.{Contact}
 use Rattle.rly_plan.specs.declared.neighbour.Neighbour.{Neighbour}
 use Rattle.rly_plan.specs.declared.plan.NextHop.{NextHop}
-use Rattle.rly_plan.specs.declared.plan.Route.{Route}
+use Rattle.rly_plan.specs.declared.route.Destination.{Destination}
+use Rattle.rly_plan.specs.declared.route.Destination.TheVariants.{Rest, Station}
+use Rattle.rly_plan.specs.declared.route.Route.{Route}
 use Rattle.rly_plan.specs.Changes.{change_after}
 use Rattle.rly_plan.specs.LinkClock.{lies_in_any, open_moments}
 
@@ -70,6 +73,42 @@ edge_wait plan hop now = option_map (λ change. sleep_of (change - now)) (next_c
 abbrev pub open_time : ContactPlan → HopId → ℕ
 open_time plan hop = link plan hop MOMENT_LIMIT
 
+-- the destination names that station; it is the rest
+abbrev pub is_for : ℕ → Destination → Bool
+is_for destination (Station station) = station == destination
+is_for destination Rest = false
+
+abbrev pub is_rest : Destination → Bool
+is_rest (Station station) = false
+is_rest Rest = true
+
 -- the hop of the route that names the destination
-abbrev pub hop_for : ContactPlan → ℕ → Option HopId
-hop_for plan destination = option_map (λ r. r.hop) (find (λ r. r.destination == destination) plan.routes)
+abbrev pub own_route : ContactPlan → ℕ → Option HopId
+own_route plan destination = option_map (λ r. r.hop) (find (λ r. is_for destination r.destination) plan.routes)
+
+-- the hop of the rest: of each destination without a route of its own, and of payloads that name none
+abbrev pub rest : ContactPlan → Option HopId
+rest plan = option_map (λ r. r.hop) (find (λ r. is_rest r.destination) plan.routes)
+
+-- the hop leads to that station
+abbrev pub leads_to : ContactPlan → ℕ → HopId → Bool
+leads_to plan station hop = unwrap_or (option_map (λ n. n.station == station) (next_hop_at plan hop)) false
+
+-- the rest of what a peer's station gives: none if its hop leads back to that station
+abbrev pub unless_back : ContactPlan → ℕ → HopId → Option HopId
+unless_back plan station hop = if leads_to plan station hop then None else Some hop
+
+abbrev pub rest_for : ContactPlan → ℕ → Option HopId
+rest_for plan station = option_and_then (unless_back plan station) (rest plan)
+
+-- the destination that a payload names by its first two bytes, the greater one first: none if it is shorter
+abbrev pub destination_in : List ℕ → Option ℕ
+destination_in [] = None
+destination_in (high ∷ []) = None
+destination_in (high ∷ low ∷ more) = Some (high * 256 + low)
+
+-- The routing rule: the hop of a payload that a peer's station gives. It is that of its destination's own route; else
+-- that of the rest, unless it leads back to that station.
+abbrev pub hop_for : ContactPlan → (station : ℕ) → (payload : List ℕ) → Option HopId
+hop_for plan station payload =
+    option_or (option_and_then (own_route plan) (destination_in payload)) (rest_for plan station)

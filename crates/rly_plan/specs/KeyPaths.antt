@@ -9,7 +9,6 @@ use Rattle.toml.specs.Parse.{parse_document}
 use Rattle.rly_core.specs.declared.limits.TheConstants.{MAX_CONTACTS, MAX_HOPS, MAX_PEERS}
 use Rattle.rly_plan_syntax.specs.declared.draft.ContactDraft.{ContactDraft}
 use Rattle.rly_plan_syntax.specs.declared.draft.NeighbourDraft.{NeighbourDraft}
-use Rattle.rly_plan_syntax.specs.declared.draft.RouteDraft.{RouteDraft}
 use Rattle.rly_plan_syntax.specs.declared.far_end.FarEndDraft.{FarEndDraft}
 use Rattle.rly_plan_syntax.specs.declared.far_end.FarEndDraft.TheVariants as draft
 use Rattle.rly_plan_syntax.specs.declared.far_end.FolderDraft.{FolderDraft}
@@ -21,11 +20,13 @@ use Rattle.rly_plan_syntax.specs.declared.key_path.Row.{Row}
 use Rattle.rly_plan_syntax.specs.declared.key_path.Row.TheVariants as row
 use Rattle.rly_plan_syntax.specs.declared.key_path.Spot.{Spot}
 use Rattle.rly_plan_syntax.specs.declared.key_path.Spot.TheVariants as spot
+use Rattle.rly_plan_syntax.specs.declared.route.RouteDraft.{RouteDraft}
 use Rattle.rly_plan_syntax.specs.DocumentPaths.{missing_place, position_after, unknown_place, unless}
 use Rattle.rly_plan_syntax.specs.Draft.{HopText, PlanText, draft_of}
 use Rattle.rly_plan_syntax.specs.Keys.{keys_are_known}
 use Rattle.rly_plan.specs.Numbers.{is_between, is_given_between, is_station, number_16}
-use Rattle.rly_plan.specs.Passes.{are_apart, begin_in_order, contact_in_range, is_in_range, is_sorted}
+use Rattle.rly_plan.specs.Passes.{are_apart, begin_in_order, contact_in_range, destination_in_range, destination_number}
+use Rattle.rly_plan.specs.Passes.{is_in_range, is_sorted}
 use Rattle.rly_plan.specs.Passes.{lead_in_range, overlaps, rate_in_range, resend_in_range}
 
 -- the first row that has a fault, and where in it: rows count from n
@@ -66,7 +67,7 @@ hop_range_fault id h =
 
 abbrev pub route_range_fault : ℕ → RouteDraft → Option Spot
 route_range_fault n r =
-    option_or (unless (is_station r.destination) (spot.At key.Destination))
+    option_or (unless (destination_in_range r.destination) (spot.At key.Destination))
     (unless (is_between 1 MAX_HOPS r.hop) (spot.At key.Hop))
 
 abbrev pub rows_range_fault : {A : Type 0} → (ℕ → A → Option Spot) → Row → ℕ → List A → Option KeyPath
@@ -113,7 +114,7 @@ overlap_place d =
     option_or (first_row apart_fault row.Hop 1 d.hops)
     (option_or (repeat_place row.Peer key.Station (map (λ p. number_16 p.station) d.peers))
     (option_or (repeat_place row.Hop key.Station (map (λ h. number_16 h.neighbour.station) d.hops))
-    (repeat_place row.Route key.Destination (map (λ r. number_16 r.destination) d.routes))))
+    (repeat_place row.Route key.Destination (map (λ r. destination_number r.destination) d.routes))))
 
 -- ---- pass 7: a route to a hop that doesn't exist
 

@@ -12,13 +12,17 @@ use Rattle.rly_core.specs.declared.refusal.Refusal.TheVariants.{Syntax, Unsorted
 use Rattle.rly_plan.specs.declared.contacts.Contact.{Contact}
 use Rattle.rly_plan_syntax.specs.declared.draft.ContactDraft.{ContactDraft}
 use Rattle.rly_plan_syntax.specs.declared.draft.NeighbourDraft.{NeighbourDraft}
-use Rattle.rly_plan_syntax.specs.declared.draft.RouteDraft.{RouteDraft}
 use Rattle.rly_plan_syntax.specs.declared.far_end.FarEndDraft.{FarEndDraft}
 use Rattle.rly_plan_syntax.specs.declared.far_end.FarEndDraft.TheVariants as draft
 use Rattle.rly_plan_syntax.specs.declared.far_end.FolderDraft.{FolderDraft}
+use Rattle.rly_plan_syntax.specs.declared.route.DestinationDraft.{DestinationDraft}
+use Rattle.rly_plan_syntax.specs.declared.route.DestinationDraft.TheVariants as to_draft
+use Rattle.rly_plan_syntax.specs.declared.route.RouteDraft.{RouteDraft}
 use Rattle.rly_plan.specs.declared.neighbour.Neighbour.{Neighbour}
 use Rattle.rly_plan.specs.declared.plan.NextHop.{NextHop}
-use Rattle.rly_plan.specs.declared.plan.Route.{Route}
+use Rattle.rly_plan.specs.declared.route.Destination.{Destination}
+use Rattle.rly_plan.specs.declared.route.Destination.TheVariants.{Rest, Station}
+use Rattle.rly_plan.specs.declared.route.Route.{Route}
 use Rattle.rly_plan.specs.ContactPlan.{ContactPlan}
 use Rattle.rly_plan.specs.FarEnds.{far_end_from}
 use Rattle.rly_plan.specs.Numbers.{is_between, is_given_between, is_station, number, number_16, number_32}
@@ -63,8 +67,12 @@ hop_in_range id h =
     && (lead_in_range h.lead
     && (nat_le (length h.contacts) MAX_CONTACTS && list_all contact_in_range h.contacts))))
 
+abbrev pub destination_in_range : DestinationDraft → Bool
+destination_in_range (to_draft.Station station) = is_station station
+destination_in_range to_draft.Rest = true
+
 abbrev pub route_in_range : RouteDraft → Bool
-route_in_range r = is_station r.destination && is_between 1 MAX_HOPS r.hop
+route_in_range r = destination_in_range r.destination && is_between 1 MAX_HOPS r.hop
 
 -- each row passes the test at its id: n, n + 1, ..
 abbrev pub all_numbered : {A : Type 0} → (ℕ → A → Bool) → ℕ → List A → Bool
@@ -105,12 +113,17 @@ abbrev pub repeats : List ℕ → Bool
 repeats [] = false
 repeats (x ∷ xs) = list_any (λ y. y == x) xs || repeats xs
 
+-- the number of a destination: 0, which no station has, for `rest`
+abbrev pub destination_number : DestinationDraft → ℕ
+destination_number (to_draft.Station station) = number_16 station
+destination_number to_draft.Rest = 0
+
 abbrev pub overlaps : PlanText → Bool
 overlaps d =
     not (list_all (λ h. all_adjacent are_apart h.contacts) d.hops)
     || (repeats (map (λ p. number_16 p.station) d.peers)
     || (repeats (map (λ h. number_16 h.neighbour.station) d.hops)
-    || repeats (map (λ r. number_16 r.destination) d.routes)))
+    || repeats (map (λ r. destination_number r.destination) d.routes)))
 
 -- ---- 54: a route to a hop that doesn't exist
 
@@ -134,8 +147,12 @@ hop_from h = record {
   contacts = map contact_from h.contacts;
 }
 
+abbrev pub destination_from : DestinationDraft → Destination
+destination_from (to_draft.Station station) = Station (number_16 station)
+destination_from to_draft.Rest = Rest
+
 abbrev pub route_from : RouteDraft → Route
-route_from r = record { destination = number_16 r.destination; hop = record { 0 = number_16 r.hop } }
+route_from r = record { destination = destination_from r.destination; hop = record { 0 = number_16 r.hop } }
 
 abbrev pub plan_from : PlanText → ContactPlan
 plan_from d = record {

@@ -8,8 +8,8 @@ ghost use Rattle.rly_plan.specs.KeyPaths.{range_place, repeat_place, rows_range_
 ghost use Rattle.rly_plan.specs.Passes.{all_adjacent, are_apart, contact_in_range};
 
 use crate::passes::{
-    contact_in_range, contact_of_draft, is_between, is_given_between, is_station, lead_in_range,
-    number_16, rate_in_range, resend_in_range,
+    contact_in_range, contact_of_draft, destination_in_range, destination_number, is_between,
+    is_given_between, is_station, lead_in_range, number_16, rate_in_range, resend_in_range,
 };
 use rly_core::limits::{AGE_LIMIT, MAX_CONTACTS, MAX_HOPS, MAX_PEERS};
 use rly_plan_syntax::{
@@ -18,10 +18,10 @@ use rly_plan_syntax::{
 };
 
 /// The greatest `limit` of a peer's folder, in milliseconds.
-const MAX_LIMIT: u64 = (AGE_LIMIT - 1) / 1_000;
+pub const MAX_LIMIT: u64 = (AGE_LIMIT - 1) / 1_000;
 
 /// The greatest `most` of a hop's folder, in files.
-const MAX_FILES: u64 = 1_000_000;
+pub const MAX_FILES: u64 = 1_000_000;
 
 /// The test that a pass applies to each table of an array.
 trait Test<T> {
@@ -155,7 +155,7 @@ impl Test<RouteDraft> for InRange {
     ghost fault = { λ _. route_range_fault };
 
     fn fault(&self, _number: u64, row: &RouteDraft) -> Option<Spot> {
-        if !is_station(row.destination) {
+        if !destination_in_range(row.destination) {
             return Some(Spot::At(PlanKey::Destination));
         }
         if !is_between(row.hop, 1, MAX_HOPS) {
@@ -333,12 +333,12 @@ impl Numbered for HopDraft {
 }
 
 impl Numbered for RouteDraft {
-    ghost use Rattle.rly_plan.specs.Numbers.{number_16};
+    ghost use Rattle.rly_plan.specs.Passes.{destination_number};
 
-    ghost number = { λ r. number_16 r.destination };
+    ghost number = { λ r. destination_number r.destination };
 
     fn number(&self) -> u16 {
-        number_16(self.destination)
+        destination_number(self.destination)
     }
 }
 

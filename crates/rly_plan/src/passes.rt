@@ -3,20 +3,21 @@
 
 ghost use Rattle.std.specs.Prelude.{◌≡◌, ◌<◌, ◌^◌, ℕ, false, IfOk, map, slice_index_or, vec_len};
 ghost use Rattle.rly_plan.specs.Numbers.{is_between, is_given_between, is_station, number, number_16, number_32};
-ghost use Rattle.rly_plan.specs.Passes.{contact_from, contact_in_range, is_in_range, is_sorted, lead_in_range};
+ghost use Rattle.rly_plan.specs.Passes.{contact_from, contact_in_range, destination_in_range, destination_number};
+ghost use Rattle.rly_plan.specs.Passes.{is_in_range, is_sorted, lead_in_range};
 ghost use Rattle.rly_plan.specs.Passes.{leads_to_hops, overlaps, rate_in_range, repeats, resend_in_range};
 
 use crate::contacts::Contact;
 use crate::number_paths::{Numbered, are_apart, lead_place, range_place, sorted_place};
 use rly_core::limits::{MAX_RESEND, MIN_RESEND, MOMENT_LIMIT};
-use rly_plan_syntax::{ContactDraft, PlanDraft};
+use rly_plan_syntax::{ContactDraft, DestinationDraft, PlanDraft};
 use std::alloc::{AllocError, Global};
 
 /// The greatest `rate` of a hop, in bytes a second. The least is 1.
-const MAX_RATE: u64 = 1_000_000_000;
+pub const MAX_RATE: u64 = 1_000_000_000;
 
 /// The greatest `lead` of a hop, in seconds: a day.
-const MAX_LEAD: u64 = 86_400;
+pub const MAX_LEAD: u64 = 86_400;
 
 /// Pass 4: whether each number is in its range.
 pub(crate) fn is_in_range(draft: &PlanDraft) -> bool
@@ -98,6 +99,26 @@ pub(crate) fn is_station(station: i64) -> bool
     ensures { result ≡ is_station station }
 {
     is_between(station, 1, 65_535)
+}
+
+/// Whether the destination of a route is a station's number, if it is one.
+pub(crate) fn destination_in_range(destination: DestinationDraft) -> bool
+    ensures { result ≡ destination_in_range destination }
+{
+    match destination {
+        DestinationDraft::Station(station) => is_station(station),
+        DestinationDraft::Rest => true,
+    }
+}
+
+/// The number of a route's destination, which no other route has: 0 for the rest.
+pub(crate) fn destination_number(destination: DestinationDraft) -> u16
+    ensures { result ≡ destination_number destination }
+{
+    match destination {
+        DestinationDraft::Station(station) => number_16(station),
+        DestinationDraft::Rest => 0,
+    }
 }
 
 /// Whether a number occurs twice.

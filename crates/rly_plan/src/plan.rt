@@ -15,6 +15,7 @@ use crate::passes::{
     contact_of_draft, is_in_range, is_sorted, leads_to_hops, number_16, number_32, overlaps,
 };
 use crate::plan_fault::PlanFault;
+use crate::route::{Route, destination_in, route_of_draft};
 use rly_core::limits::{DEFAULT_RESEND, MOMENT_LIMIT};
 use rly_core::{HopId, PeerId, Refusal};
 use rly_plan_syntax::{
@@ -75,15 +76,6 @@ impl NextHop {
     }
 }
 
-/// The next hop of a destination.
-#[derive(Clone, Copy, PartialEq, Eq)]
-pub struct Route {
-    /// The destination's station number.
-    pub destination: u16,
-    /// The next hop on the way to it.
-    pub hop: HopId,
-}
-
 /// A contact plan: this station, its neighbours on both sides, the contacts of each next hop's link, and the
 /// routes.
 #[derive(Drop)]
@@ -105,7 +97,8 @@ impl Model for Plan {
 
 impl Plan {
     ghost use Rattle.std.specs.Prelude.{◌≡◌, ◌≢◌, ◌<◌, length, IfErr, IfOk, IfSome, None, Ok, Err, option_copied};
-    ghost use Rattle.rly_plan.specs.ContactPlan.{hop_for, is_open, link, next_change, next_hop_at, open_time, peer_at};
+    ghost use Rattle.rly_plan.specs.ContactPlan.{hop_for, is_open, leads_to, link, next_change, next_hop_at, open_time};
+    ghost use Rattle.rly_plan.specs.ContactPlan.{own_route, peer_at, rest, rest_for};
     ghost use Rattle.rly_plan.specs.ContactPlan.{edge_wait, lead, rate, resend};
     ghost use Rattle.rly_plan.specs.Passes.{plan_of_text};
     ghost use Rattle.rly_plan.specs.KeyPaths.{IsPlaceOf};
@@ -240,16 +233,62 @@ impl Plan {
         }
     }
 
-    /// The next hop of the datagrams for a destination.
-    pub fn hop_for(&self, destination: u16) -> Option<HopId>
-        ensures { result ≡ hop_for self.now destination }
+    /// The next hop of a payload that the station of a peer gives: that of its destination's own route, or else that of
+    /// the rest, unless it leads back to that station.
+    pub fn hop_for(&self, station: u16, payload: &[u8]) -> Option<HopId>
+        ensures { result ≡ hop_for self.now station payload.now }
+    {
+        if let Some(destination) = destination_in(payload) {
+            if let Some(hop) = self.own_route(destination) {
+                return Some(hop);
+            }
+        }
+        self.rest_for(station)
+    }
+
+    /// The hop of the rest for what the station of a peer gives: `None` if the plan has no rest, or its hop leads back to
+    /// that station.
+    pub fn rest_for(&self, station: u16) -> Option<HopId>
+        ensures { result ≡ rest_for self.now station }
+    {
+        match self.rest() {
+            Some(hop) if self.leads_to(station, hop) => None,
+            rest => rest,
+        }
+    }
+
+    /// The hop of the rest, if the plan has one.
+    pub fn rest(&self) -> Option<HopId>
+        ensures { result ≡ rest self.now }
     {
         for route in &self.routes {
-            if route.destination == destination {
+            if route.destination.is_rest() {
                 return Some(route.hop);
             }
         }
         None
+    }
+
+    /// The hop of a destination's own route.
+    fn own_route(&self, destination: u16) -> Option<HopId>
+        ensures { result ≡ own_route self.now destination }
+    {
+        for route in &self.routes {
+            if route.destination.is_for(destination) {
+                return Some(route.hop);
+            }
+        }
+        None
+    }
+
+    /// Whether a hop leads to a station.
+    fn leads_to(&self, station: u16, hop: HopId) -> bool
+        ensures { result ≡ leads_to self.now station hop }
+    {
+        match self.hop(hop) {
+            Some(neighbour) => neighbour.station == station,
+            None => false,
+        }
     }
 
     /// Whether the link of a hop is open at a moment: false for a hop that doesn't exist.
@@ -433,15 +472,6 @@ fn routes_of_draft(alloc: Global, drafts: &[RouteDraft]) -> Result<Vec<Route>, A
         .iter()
         .map(|draft| route_of_draft(*draft))
         .collect(alloc)
-}
-
-fn route_of_draft(draft: RouteDraft) -> Route
-    ensures { result ≡ route_from draft }
-{
-    Route {
-        destination: number_16(draft.destination),
-        hop: HopId(number_16(draft.hop)),
-    }
 }
 
 fn hops_of_draft(alloc: Global, drafts: Vec<HopDraft>) -> Result<Vec<NextHop>, AllocError>

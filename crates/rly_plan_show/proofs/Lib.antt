@@ -1,2 +1,4 @@
+pub mod Counts
 pub mod Lines
 pub mod Dates
+mod Warned

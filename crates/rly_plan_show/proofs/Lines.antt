@@ -11,7 +11,7 @@ enumerate_push n (y ∷ ys) x =
     ap (λ es. (n, y) ∷ es) (enumerate_push (n + 1) ys x ∙ ap (λ k. enumerate_from (n + 1) ys ++ (k, x) ∷ []) same)
 
 -- the lines of one element more, after a text
-pub lines_more : {X : Type 0} (f : ℕ × X → List ℕ) (text : List ℕ) (xs : List X) (i : ℕ) (d : X) → i < length xs
+pub lines_more : {X Y : Type 0} (f : ℕ × X → List Y) (text : List Y) (xs : List X) (i : ℕ) (d : X) → i < length xs
     → (text ++ flat_map f (enumerate_from 1 (take i xs))) ++ f (i + 1, get_or xs i d) ≡ text ++ flat_map f (enumerate_from 1 (take (i + 1) xs))
 lines_more f text xs i d within =
     let number : 1 + length (take i xs) ≡ i + 1 = omega (arith, length-take i xs) in
@@ -21,7 +21,7 @@ lines_more f text xs i d within =
     flat_map_more f text (enumerate_from 1 (take i xs)) (i + 1, get_or xs i d) ∙ ap (λ es. text ++ flat_map f es) (sym last)
 
 -- the same, if the line was appended to those so far, for the element that was found there
-pub lines_written : {X : Type 0} (f : ℕ × X → List ℕ) (old mid new : List ℕ) (xs : List X) (i number : ℕ) (x : X) → i < length xs → x ≡ get_or xs i x → number ≡ i
+pub lines_written : {X Y : Type 0} (f : ℕ × X → List Y) (old mid new : List Y) (xs : List X) (i number : ℕ) (x : X) → i < length xs → x ≡ get_or xs i x → number ≡ i
     → mid ≡ old ++ flat_map f (enumerate_from 1 (take i xs)) → new ≡ mid ++ f (number + 1, x)
     → new ≡ old ++ flat_map f (enumerate_from 1 (take (i + 1) xs))
 lines_written f old mid new xs i number x within found same before line =

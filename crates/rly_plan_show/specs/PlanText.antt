@@ -13,7 +13,9 @@ use Rattle.rly_plan.specs.declared.far_end.FarEnd.TheVariants.{Folder, Socket}
 use Rattle.rly_plan.specs.declared.far_end.FolderEnd.{FolderEnd}
 use Rattle.rly_plan.specs.declared.neighbour.Neighbour.{Neighbour}
 use Rattle.rly_plan.specs.declared.plan.NextHop.{NextHop}
-use Rattle.rly_plan.specs.declared.plan.Route.{Route}
+use Rattle.rly_plan.specs.declared.route.Destination.{Destination}
+use Rattle.rly_plan.specs.declared.route.Destination.TheVariants.{Rest, Station}
+use Rattle.rly_plan.specs.declared.route.Route.{Route}
 use Rattle.rly_plan_show.specs.Utc.{utc_text}
 use Rattle.rly_plan_syntax.specs.declared.far_end.SocketEnd.{SocketEnd}
 
@@ -114,9 +116,13 @@ state_line moment (id, hop) =
 abbrev pub hop_lines : ℕ → ℕ × NextHop → List ℕ
 hop_lines moment numbered = hop_line numbered ++ times_line numbered ++ state_line moment numbered
 
--- route D hop H
+-- route D hop H, or route rest hop H
+abbrev pub route_name : Destination → List ℕ
+route_name (Station station) = decimal station
+route_name Rest = codes "rest"
+
 abbrev pub route_line : Route → List ℕ
-route_line route = codes "route " ++ decimal route.destination ++ codes " hop " ++ decimal route.hop.0 ++ 10 ∷ []
+route_line route = codes "route " ++ route_name route.destination ++ codes " hop " ++ decimal route.hop.0 ++ 10 ∷ []
 
 -- the peers, hops and routes, each peer and hop with its id
 abbrev pub peers_text : List Neighbour → List ℕ

@@ -6,7 +6,7 @@ ghost use Rattle.rly_plan_show.specs.PlanText.{state_line, state_text, station_l
 
 use crate::utc::Utc;
 use rly_core::limits::MOMENT_LIMIT;
-use rly_plan::{FarEnd, FolderEnd, Neighbour, NextHop, Plan, Route, SocketEnd};
+use rly_plan::{Destination, FarEnd, FolderEnd, Neighbour, NextHop, Plan, Route, SocketEnd};
 use std::alloc::{AllocError, Global};
 
 /// The text of a plan at a moment, in microseconds since the Unix epoch. `Err`: out of memory.
@@ -245,8 +245,10 @@ fn write_routes(text: &mut String, routes: &[Route]) -> Result<(), AllocError>
 fn write_route(text: &mut String, route: Route) -> Result<(), AllocError>
     ensures { OnOk result (string_bytes text.new ≡ string_bytes text.old ++ route_line route) }
 {
-    let destination = route.destination;
     let hop = route.hop.0;
-    writeln!(text, "route {destination} hop {hop}")?;
+    match route.destination {
+        Destination::Station(station) => writeln!(text, "route {station} hop {hop}")?,
+        Destination::Rest => writeln!(text, "route rest hop {hop}")?,
+    }
     Ok(())
 }

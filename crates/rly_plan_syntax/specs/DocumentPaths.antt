@@ -14,7 +14,7 @@ use Rattle.rly_plan_syntax.specs.declared.key_path.Row.{Row}
 use Rattle.rly_plan_syntax.specs.declared.key_path.Row.TheVariants as row
 use Rattle.rly_plan_syntax.specs.declared.key_path.Spot.{Spot}
 use Rattle.rly_plan_syntax.specs.declared.key_path.Spot.TheVariants as spot
-use Rattle.rly_plan_syntax.specs.Draft.{contact_draft_of, integer_at, optional_number, optional_text, text_at}
+use Rattle.rly_plan_syntax.specs.Draft.{contact_draft_of, destination_in, integer_at, optional_number, optional_text, text_at}
 use Rattle.rly_plan_syntax.specs.Keys.{has_folder, has_key, has_no_key}
 
 -- the location, unless the test passes
@@ -140,7 +140,7 @@ hop_lacks ms =
 
 abbrev pub route_lacks : Members → Option Spot
 route_lacks ms =
-    option_or (unless (is_some (integer_at (codes "destination") ms)) (spot.At key.Destination))
+    option_or (unless (is_some (destination_in ms)) (spot.At key.Destination))
     (unless (is_some (integer_at (codes "hop") ms)) (spot.At key.Hop))
 
 abbrev pub table_lacks : Row → Members → Option Spot

@@ -1,12 +1,15 @@
 -- A document that has all its keys, with values of their types, as a draft: its numbers aren't checked yet.
 use Rattle.std.specs.Prelude.{ℕ, ℤ, pos, List, [], ◌∷◌, codes, Option, Some, None, option_and_then, if◌then◌else◌}
-use Rattle.toml.specs.Data.{Data, as_integer, as_str, as_array, as_table, Items, no_items, item, Members, get_member}
+use Rattle.std.specs.Str.{bytes_eq}
+use Rattle.toml.specs.Data.{Data, string, integer, as_integer, as_str, as_array, as_table, Items, no_items, item, Members, get_member}
 use Rattle.rly_core.specs.declared.limits.TheConstants.{DEFAULT_RESEND}
 use Rattle.rly_plan_syntax.specs.declared.draft.ContactDraft.{ContactDraft}
 use Rattle.rly_plan_syntax.specs.declared.draft.NeighbourDraft.{NeighbourDraft}
-use Rattle.rly_plan_syntax.specs.declared.draft.RouteDraft.{RouteDraft}
 use Rattle.rly_plan_syntax.specs.declared.far_end.FarEndDraft.{FarEndDraft}
 use Rattle.rly_plan_syntax.specs.declared.far_end.FarEndDraft.TheVariants.{Folder, Socket}
+use Rattle.rly_plan_syntax.specs.declared.route.DestinationDraft.{DestinationDraft}
+use Rattle.rly_plan_syntax.specs.declared.route.DestinationDraft.TheVariants.{Rest, Station}
+use Rattle.rly_plan_syntax.specs.declared.route.RouteDraft.{RouteDraft}
 use Rattle.rly_plan_syntax.specs.Keys.{has_folder}
 
 -- a [[hop]] table
@@ -118,9 +121,18 @@ hop_in ms = do
 abbrev pub hop_draft_of : Data → Option HopText
 hop_draft_of value = as_table value >>= hop_in
 
+-- a route's destination: a station's number, or the text "rest"
+abbrev pub destination_draft_of : Data → Option DestinationDraft
+destination_draft_of (integer number) = Some (Station number)
+destination_draft_of (string text) = if bytes_eq text (codes "rest") then Some Rest else None
+destination_draft_of _ = None
+
+abbrev pub destination_in : Members → Option DestinationDraft
+destination_in ms = get_member (codes "destination") ms >>= destination_draft_of
+
 abbrev pub route_in : Members → Option RouteDraft
 route_in ms = do
-  destination ← integer_at (codes "destination") ms
+  destination ← destination_in ms
   hop ← integer_at (codes "hop") ms
   Some (record { destination = destination; hop = hop })
 

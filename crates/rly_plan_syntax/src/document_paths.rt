@@ -13,6 +13,7 @@ use crate::draft::{integer, optional_integer, optional_text, read_contact, text,
 use crate::far_end::has_folder;
 use crate::key_path::{KeyPath, PlanKey, Row, Spot};
 use crate::keys::has_no_key;
+use crate::route::read_destination;
 use toml::value::Array;
 use toml::{Table, Value};
 
@@ -226,7 +227,7 @@ fn hop_lacks(table: &Table) -> Option<Spot>
 fn route_lacks(table: &Table) -> Option<Spot>
     ensures { result ≡ route_lacks (table_view table.now) }
 {
-    if integer(table, "destination").is_none() {
+    if read_destination(table).is_none() {
         return Some(Spot::At(PlanKey::Destination));
     }
     if integer(table, "hop").is_none() {

@@ -6,6 +6,7 @@ ghost use Rattle.rly_plan_syntax.specs.Draft.{neighbour_of, number_or, optional_
 ghost use Rattle.rly_plan_syntax.specs.HelpersDraft.{contact_between, link_in, link_text};
 
 use crate::far_end::{FarEndDraft, read_far_end};
+use crate::route::{RouteDraft, read_route};
 use rly_core::limits::DEFAULT_RESEND;
 use std::alloc::{AllocError, Global};
 use std::marker::Model;
@@ -62,15 +63,6 @@ impl Model for HopDraft {
         } };
 }
 
-/// A `[[route]]` table.
-#[derive(Clone, Copy)]
-pub struct RouteDraft {
-    /// The destination's station number.
-    pub destination: i64,
-    /// The id of the next hop on the way to it.
-    pub hop: i64,
-}
-
 /// A plan that has all its keys, with values of their types. Its numbers aren't checked yet.
 #[derive(Drop)]
 pub struct PlanDraft {
@@ -117,8 +109,8 @@ impl Item for ContactDraft {
 }
 
 /// Reads a contact: `None` if the value isn't two whole numbers.
-pub(crate) fn read_contact(value: &Value) -> Option<ContactDraft>
-    ensures { result ≡ contact_draft_of (view value.now) }
+pub fn read_contact(value: &Value) -> Option<ContactDraft>
+    ensures contact { result ≡ contact_draft_of (view value.now) }
 {
     let Some(pair) = value.as_array() else {
         return None;
@@ -234,16 +226,10 @@ impl Item for RouteDraft {
     ghost shape = { route_draft_of };
 
     fn read(_alloc: Global, value: &Value) -> Result<Option<RouteDraft>, AllocError> {
-        let Some(table) = value.as_table() else {
-            return Ok(None);
-        };
-        let Some(destination) = integer(table, "destination") else {
-            return Ok(None);
-        };
-        let Some(hop) = integer(table, "hop") else {
-            return Ok(None);
-        };
-        Ok(Some(RouteDraft { destination, hop }))
+        match value.as_table() {
+            Some(table) => Ok(read_route(table)),
+            None => Ok(None),
+        }
     }
 }
 
@@ -276,8 +262,8 @@ impl PlanDraft {
 }
 
 /// The value at a key.
-pub(crate) fn value_at<'a>(table: &'a Table, key: &str) -> Option<&'a Value>
-    ensures { option_map (λ v. view v.now) result ≡ get_member key.now (table_view table.now) }
+pub fn value_at<'a>(table: &'a Table, key: &str) -> Option<&'a Value>
+    ensures value { option_map (λ v. view v.now) result ≡ get_member key.now (table_view table.now) }
 {
     table.get(key)
 }

@@ -16,8 +16,8 @@ impl Row {
     ghost use Rattle.rly_plan_syntax.specs.PathText.{row_text};
 
     /// The array's key.
-    fn text(self) -> &'static str
-        ensures { result.now ≡ row_text self }
+    pub fn text(self) -> &'static str
+        ensures text { result.now ≡ row_text self }
     {
         match self {
             Row::Peer => "peer",
@@ -65,8 +65,8 @@ impl PlanKey {
     ghost use Rattle.rly_plan_syntax.specs.PathText.{key_text};
 
     /// The key as a plan writes it.
-    fn text(self) -> &'static str
-        ensures { result.now ≡ key_text self }
+    pub fn text(self) -> &'static str
+        ensures text { result.now ≡ key_text self }
     {
         match self {
             PlanKey::Id => "id",

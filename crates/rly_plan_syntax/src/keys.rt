@@ -15,8 +15,8 @@ impl Row {
     ghost use Rattle.rly_plan_syntax.specs.Keys.{has_key};
 
     /// Whether a table of the array may have the key. A table whose link leads to a folder has keys of its own.
-    pub(crate) fn has_key(self, folder: bool, key: &str) -> bool
-        ensures { result ≡ has_key self folder key.now }
+    pub fn has_key(self, folder: bool, key: &str) -> bool
+        ensures known { result ≡ has_key self folder key.now }
     {
         match self {
             Row::Peer if folder => is_incoming_key(key),

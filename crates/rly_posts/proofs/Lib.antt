@@ -1,4 +1,5 @@
 pub mod CountedPosts
 pub mod SoundNeighbours
 pub mod Sending
+mod Led
 pub mod WatchedPosts

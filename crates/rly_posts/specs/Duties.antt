@@ -14,7 +14,7 @@ use Rattle.rly_plan.specs.declared.far_end.FarEnd.{FarEnd}
 use Rattle.rly_plan.specs.declared.far_end.FarEnd.TheVariants as far
 use Rattle.rly_plan.specs.declared.far_end.FolderEnd.{FolderEnd}
 use Rattle.rly_plan.specs.declared.neighbour.Neighbour.{Neighbour}
-use Rattle.rly_posts.specs.Folders.{IncomingDuty, OutgoingDuty, incoming_duty, incoming_duty_of, outgoing_duty, outgoing_duty_of, own_station}
+use Rattle.rly_posts.specs.Folders.{IncomingDuty, OutgoingDuty, incoming_duty, incoming_duty_of, outgoing_duty, outgoing_duty_of}
 use Rattle.rly_posts.specs.declared.neighbour_link.NeighbourLink.{NeighbourLink}
 use Rattle.rly_posts.specs.declared.neighbour_link.NeighbourLink.TheVariants as link
 use Rattle.rly_station.specs.Workers.{neighbour_of}
@@ -44,7 +44,7 @@ neighbour_station n = record { 0 = n.station }
 -- the link of a worker to a neighbour, with its key or the path of its folder
 abbrev pub far_duty_of : ContactPlan → (longest turns : ℕ) → KeyedWorker → StationId → FarEnd → Option LinkDuty
 far_duty_of plan longest turns keyed peer (far.Socket s) =
-    Some (AtSocket (socket_duty_of keyed.worker (own_station plan) peer s.addresses (option_map (λ k. k.keys) keyed.key) longest))
+    Some (AtSocket (socket_duty_of keyed.worker plan peer s.addresses (option_map (λ k. k.keys) keyed.key) longest))
 far_duty_of plan longest turns keyed peer (far.Folder end) =
     option_map (λ path. folder_duty_of plan longest turns keyed.worker peer end (string_bytes path)) keyed.folder
 

@@ -1,17 +1,22 @@
 -- The links of a station to folders that play its neighbours.
-use Rattle.std.specs.Prelude.{◌≡◌, ℕ, ◌-◌, ◌*◌, min, Bool, true, List, [], ◌∷◌, map, Option, None, Some}
+use Rattle.std.specs.Prelude.{◌≡◌, ℕ, ◌-◌, ◌*◌, min, nat_lt, Bool, true, List, [], ◌∷◌, length, Option, None, Some, is_some}
+use Rattle.std.specs.List.{flat_map}
+use Rattle.rly_folder.specs.declared.name.Area.{Area}
 use Rattle.rly_folder_file.specs.FileFolder.{folder_path, is_locked}
 use Rattle.rly_folder_file.specs.declared.file_folder.FileFolder.{FileFolder}
 use Rattle.rly_hop.specs.declared.message.StationId.{StationId}
 use Rattle.rly_link.specs.declared.turn.Worker.{Worker}
 use Rattle.rly_link_folder.specs.HopNeighbour.{Neighbour}
-use Rattle.rly_link_folder.specs.Inbox.{destination_of, inbox_folder, longest_of, routes_of}
+use Rattle.rly_link_folder.specs.Inbox.{destination_of, inbox_folder, longest_of, routes_of, takes_rest}
+use Rattle.rly_link_folder.specs.InboxCalls.{reason_for}
 use Rattle.rly_link_folder.specs.Outbox.{folder_of, most_of}
 use Rattle.rly_link_folder.specs.PeerNeighbour.{Peer}
-use Rattle.rly_link_udp.specs.LinkDuties.{longest_until, longest_wait}
-use Rattle.rly_plan.specs.ContactPlan.{ContactPlan}
-use Rattle.rly_plan.specs.declared.plan.Route.{Route}
+use Rattle.rly_link_udp.specs.LinkDuties.{longest_until, longest_wait, own_station}
+use Rattle.rly_plan.specs.ContactPlan.{ContactPlan, destination_in, hop_for, rest_for}
 use Rattle.rly_plan.specs.declared.far_end.FolderEnd.{FolderEnd}
+use Rattle.rly_plan.specs.declared.route.Destination.{Destination}
+use Rattle.rly_plan.specs.declared.route.Destination.TheVariants.{Rest, Station}
+use Rattle.rly_plan.specs.declared.route.Route.{Route}
 use Rattle.rly_posts.specs.FolderLog.{HasNotedCalls, HasNotedPhase, LogView, log_view, new_log}
 use Rattle.rly_posts.specs.declared.folder_log.FolderLog.{FolderLog}
 use Rattle.rly_posts.specs.declared.incoming_link.IncomingLink.{IncomingLink}
@@ -26,22 +31,32 @@ pub record IsOpenAt {H : Type 0} (path : List ℕ) (folder : FileFolder H) : Typ
 abbrev pub longest_payload : ℕ → ℕ
 longest_payload longest = min (longest - 23) 8192
 
--- a destination that has a route: 0 if none has
-abbrev pub first_destination : List Route → ℕ
-first_destination [] = 0
-first_destination (route ∷ routes) = route.destination
+-- the stations that have a route of their own
+abbrev pub station_in : Destination → List ℕ
+station_in (Station station) = station ∷ []
+station_in Rest = []
+
+abbrev pub stations_of : List Route → List ℕ
+stations_of routes = flat_map (λ r. station_in r.destination) routes
+
+-- a station that has a route of its own: 0, which only the rest leads on, if none has
+abbrev pub first_of : List ℕ → ℕ
+first_of [] = 0
+first_of (station ∷ stations) = station
 
 abbrev pub probe_of : ContactPlan → ℕ
-probe_of plan = first_destination plan.routes
+probe_of plan = first_of (stations_of plan.routes)
+
+-- the reason for which the station of a plan, whose payloads have at most so many bytes, refuses a payload of a peer's
+-- station for good: it has no hop for it by the routing rule, or the payload is too long
+abbrev pub reason_by : ContactPlan → (station longest : ℕ) → List ℕ → Option Area
+reason_by plan station longest payload =
+    reason_for (is_some (hop_for plan station payload)) (nat_lt longest (length payload)) (destination_in payload)
 
 -- the age limit of a datagram, in microseconds: 0 if it has none
 abbrev pub limit_of : Option ℕ → ℕ
 limit_of None = 0
 limit_of (Some limit) = limit * 1000
-
--- the station of a plan
-abbrev pub own_station : ContactPlan → StationId
-own_station plan = record { 0 = plan.station }
 
 -- The link to a folder whose files become datagrams: the folder, as it was opened, which plays the one station for the other;
 -- the datagrams that this one takes; the age limit of each; how many may be on their way; the destination by which it asks
@@ -53,6 +68,7 @@ pub record IncomingDuty : Type 0 where
   pub plays : StationId
   pub station : StationId
   pub routes : List ℕ
+  pub rest : Bool
   pub longest : ℕ
   pub destination : Option ℕ
   pub limit : ℕ
@@ -69,6 +85,7 @@ incoming_duty l = record {
   plays = l.link.neighbour.own;
   station = l.link.neighbour.station;
   routes = routes_of l.link.neighbour.rules;
+  rest = takes_rest l.link.neighbour.rules;
   longest = longest_of l.link.neighbour.rules;
   destination = destination_of l.link.neighbour.rules;
   limit = l.link.neighbour.limit;
@@ -86,7 +103,8 @@ incoming_duty_of plan longest turns w peer end path = record {
   is_locked = true;
   plays = peer;
   station = own_station plan;
-  routes = map (λ r. r.destination) plan.routes;
+  routes = stations_of plan.routes;
+  rest = is_some (rest_for plan peer.0);
   longest = longest_payload longest;
   destination = end.destination;
   limit = limit_of end.limit;

@@ -4,7 +4,7 @@ ghost use Rattle.std.specs.Prelude.{◌≡◌, IfOk, IfSome, string_bytes};
 ghost use Rattle.rly_core.specs.Bounds.{IsIn};
 ghost use Rattle.rly_folder_file.specs.FileFolder.{folder_path, is_locked};
 ghost use Rattle.rly_hop.specs.Spelling.{IsStation};
-ghost use Rattle.rly_link_folder.specs.Inbox.{destination_of, longest_of, routes_of};
+ghost use Rattle.rly_link_folder.specs.Inbox.{destination_of, longest_of, routes_of, takes_rest};
 ghost use Rattle.rly_plan.specs.Sound.{IsSoundFolder, IsSoundPlan};
 ghost use Rattle.rly_posts.specs.FolderLog.{log_view};
 ghost use Rattle.rly_posts.specs.Folders.{HasNotedPeer, incoming_duty, incoming_duty_of, limit_of};
@@ -58,6 +58,7 @@ impl<C: AllocGlobal + Files<File = File> + Clock + Clone + Drop> IncomingLink<C>
           plays = peer;
           station = own;
           routes = routes_of rules;
+          rest = takes_rest rules;
           longest = longest_of rules;
           destination = destination_of rules;
           limit = limit_of limit;
@@ -166,7 +167,7 @@ pub(crate) fn incoming_link_of<'a, H: AllocGlobal + Files<File = File> + Clock +
     ensures { IfOk result
         (λ link. incoming_duty link ≡ incoming_duty_of plan.now longest turns worker peer end.now (string_bytes path)) }
 {
-    let rules = admission_of(rt.alloc(), plan, longest, end.destination)?;
+    let rules = admission_of(rt.alloc(), plan, peer, longest, end.destination)?;
     let log = FolderLog::new(worker, signals)?;
     match open_folder(rt, worker, path.as_str(), turns, signals) {
         Ok(opened) => Ok(IncomingLink::new(

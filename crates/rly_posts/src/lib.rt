@@ -12,6 +12,7 @@ mod admission;
 mod folder_log;
 mod folder_words;
 mod incoming_link;
+mod laws;
 mod neighbour_link;
 mod open_folder;
 mod outgoing_link;
@@ -20,6 +21,7 @@ mod wake_file;
 mod watched_folders;
 
 pub use crate::incoming_link::IncomingLink;
+pub use crate::laws::law_files_are_led;
 pub use crate::neighbour_link::NeighbourLink;
 pub use crate::outgoing_link::OutgoingLink;
 pub use crate::posts::{UdpPost, posts_of};

@@ -132,14 +132,13 @@ fn link_of<'a, H: AllocGlobal + Files<File = File> + Clock + Net>(
         key,
         folder,
     } = keyed;
-    let own = StationId(plan.station());
     let peer = StationId(neighbour.station);
     match (&neighbour.far, folder) {
         (FarEnd::Socket(socket), _) => {
             let key = key.map(|key| key.into_key());
             let link = socket_link_of(
                 rt,
-                own,
+                plan,
                 peer,
                 worker,
                 &socket.addresses,

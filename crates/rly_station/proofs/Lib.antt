@@ -1,1 +1,2 @@
 pub mod CountedWorkers
+pub mod LinesApart

@@ -1,7 +1,10 @@
 pub mod Faults
+pub mod Kinds
+pub mod LinkCauses
 pub mod Moment
 pub mod NamedKey
 pub mod ReceiveBuffers
+pub mod SpoolWarnings
 pub mod Warnings
 pub mod Workers
 pub mod Keys

@@ -16,7 +16,9 @@ use Rattle.rly_station.specs.declared.warning.SystemCall.TheVariants.{Folder, Re
 use Rattle.rly_station.specs.declared.warning.ClockStep.{ClockStep}
 use Rattle.rly_station.specs.declared.warning.ClockStep.TheVariants.{Forward, Back}
 use Rattle.rly_station.specs.declared.warning.Warning.{Warning}
-use Rattle.rly_station.specs.declared.warning.Warning.TheVariants.{ClockSet, FailedCall, ForeignName, NoFile, SmallBuffer, WrongTag}
+use Rattle.rly_station.specs.declared.warning.Warning.TheVariants.{ClockSet, FailedCall, ForeignName, Link, NoFile, SmallBuffer, Spool, WrongTag}
+use Rattle.rly_station.specs.LinkCauses.{cause_text}
+use Rattle.rly_station.specs.SpoolWarnings.{spool_text}
 use Rattle.rly_link.specs.declared.turn.Worker.{Worker}
 use Rattle.rly_link.specs.declared.turn.Worker.TheVariants as worker
 
@@ -48,13 +50,16 @@ stop_text (stop.Question refusal) = codes "last number refused (" ++ decimal ref
 abbrev pub warning_text : Warning → Option (List ℕ)
 warning_text (FailedCall call count word) = None
 warning_text (WrongTag w count) =
-    Some (codes "rly: " ++ name_text w ++ codes ": wrong tag (" ++ decimal count ++ codes " so far)")
+    Some (codes "rly: "
+    ++ (name_text w ++ (codes ": wrong tag (" ++ (decimal count ++ codes " so far): the same key at both ends?"))))
+warning_text (Link w cause count) = Some (codes "rly: " ++ name_text w ++ codes ": " ++ cause_text cause count)
 warning_text (ClockSet step) = Some (codes "rly: " ++ step_text step)
 warning_text (NoFile w stop) = Some (codes "rly: " ++ name_text w ++ codes ": " ++ stop_text stop)
 warning_text (ForeignName w) = Some (codes "rly: " ++ name_text w ++ codes ": foreign name in the folder ignored")
 warning_text (SmallBuffer wanted granted) =
     Some (codes "rly: receive buffer of "
     ++ (decimal granted ++ (codes " bytes: set net.core.rmem_max to " ++ decimal wanted)))
+warning_text (Spool warning) = Some (codes "rly: " ++ spool_text warning)
 
 -- the warnings logged, in order
 abbrev pub logged_warnings : Logger → List Warning

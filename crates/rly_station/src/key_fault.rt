@@ -11,6 +11,9 @@ pub enum KeyWord {
     /// The system's error.
     #[error("{0}")]
     System(SystemWord),
+    /// It is something other than a file, such as a pipe.
+    #[error("not a regular file")]
+    Special,
     /// Its text is not a key.
     #[error("not one or two lines of 64 hex digits")]
     Form,

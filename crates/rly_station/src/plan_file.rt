@@ -16,16 +16,27 @@ use std::fs;
 use std::fs::{File, Files};
 use std::io::ErrorKind;
 
-/// Reads a plan from a file. Returns `Plan` if the file can't be read or isn't UTF-8; a refused plan comes with the
-/// location of its first fault.
+/// Whether at a path is something other than a file or a folder, such as a pipe: its opening could wait for ever.
+pub(crate) fn is_special<F: Files>(files: &F, path: &str) -> bool {
+    match fs::metadata(files, path) {
+        Ok(found) => !found.is_file() && !found.is_dir(),
+        Err(_) => false,
+    }
+}
+
+/// Reads a plan from a file. Returns `Plan` if the file can't be read or isn't UTF-8, and `SpecialPlan` if it is no regular
+/// file; a refused plan comes with the location of its first fault.
 pub fn read_plan<H: AllocGlobal + Files<File = File>>(
     rt: &H,
     path: &str,
 ) -> Result<Plan, ServeFault>
     ensures sound { IfOk result (λ plan. IsSoundPlan plan) }
-    ensures fault { IfErr result (λ f. ((word : AWord) × (f ≡ fault.Plan word))
+    ensures fault { IfErr result (λ f. ((word : AWord) × (f ≡ fault.Plan word)) ⊎ (f ≡ fault.SpecialPlan)
         ⊎ ((refusal : ARefusal) × (place : Option AKeyPath) × (f ≡ fault.Refused refusal (cause_at place)))) }
 {
+    if is_special(rt, path) {
+        return Err(ServeFault::SpecialPlan);
+    }
     match fs::read_to_string(rt, path) {
         Ok(text) => {
             law_plan_is_sound();

@@ -6,6 +6,7 @@ ghost use Rattle.rly_station.specs.Keys.{path_beside, worker_and_file, worker_an
 ghost use Rattle.rly_plan.specs.Sound.{IsSoundPlan};
 
 use crate::key_fault::{KeyFault, KeyWord};
+use crate::plan_file::is_special;
 use crate::serve_fault::ServeFault;
 use crate::workers::{neighbour_of, workers_of};
 use rly_link::Worker;
@@ -182,6 +183,9 @@ fn path_beside(alloc: Global, plan: &str, named: &str) -> Result<String, AllocEr
 
 /// Reads the key in a file.
 fn key_in_file<H: Files<File = File>>(files: &H, path: &str) -> Result<Key, KeyWord> {
+    if is_special(files, path) {
+        return Err(KeyWord::Special);
+    }
     let file = File::open(files, path)?;
     let found = file.metadata()?;
     let mut text = [0; MOST];

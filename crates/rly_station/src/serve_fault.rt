@@ -13,6 +13,9 @@ pub enum ServeFault {
     /// The plan can't be read, or isn't UTF-8.
     #[error("rly: plan failed\nrly: plan: {0}")]
     Plan(SystemWord),
+    /// The plan is something other than a file, such as a pipe.
+    #[error("rly: plan failed\nrly: plan: not a regular file")]
+    SpecialPlan,
     /// A socket refused an address of a link.
     #[error("rly: link failed\nrly: {0}")]
     Link(AddressFault),

@@ -2,6 +2,8 @@
 
 use crate::file_fault::SystemWord;
 use crate::folder_stop::FolderStop;
+use crate::link_cause::{CountedCause, LinkCause};
+use crate::spool_warning::SpoolWarning;
 use crate::worker_name::WorkerName;
 use rly_link::Worker;
 use std::fmt;
@@ -68,6 +70,12 @@ pub enum Warning {
         worker: Worker,
         count: u64,
     },
+    /// A link showed what stops it: the link's worker, the cause, and the number of its kind so far.
+    Link {
+        worker: Worker,
+        cause: LinkCause,
+        count: u64,
+    },
     /// The wall clock was set.
     ClockSet(ClockStep),
     /// No file of a peer's folder is given any more: the link's worker, and why.
@@ -82,6 +90,8 @@ pub enum Warning {
         wanted: u32,
         granted: u32,
     },
+    /// The spool discarded a datagram, or is nearly full.
+    Spool(SpoolWarning),
 }
 
 impl Display for Warning {
@@ -96,9 +106,20 @@ impl Display for Warning {
             }
             Warning::WrongTag { worker, count } => write!(
                 f,
-                "rly: {}: wrong tag ({count} so far)",
+                "rly: {}: wrong tag ({count} so far): the same key at both ends?",
                 WorkerName(*worker)
             ),
+            Warning::Link {
+                worker,
+                cause,
+                count,
+            } => {
+                let cause = CountedCause {
+                    cause: *cause,
+                    count: *count,
+                };
+                write!(f, "rly: {}: {cause}", WorkerName(*worker))
+            }
             Warning::ClockSet(step) => write!(f, "rly: {step}"),
             Warning::NoFile { worker, stop } => write!(f, "rly: {}: {stop}", WorkerName(*worker)),
             Warning::ForeignName(worker) => write!(
@@ -110,6 +131,7 @@ impl Display for Warning {
                 f,
                 "rly: receive buffer of {granted} bytes: set net.core.rmem_max to {wanted}"
             ),
+            Warning::Spool(warning) => write!(f, "rly: {warning}"),
         }
     }
 }

@@ -4,6 +4,7 @@ ghost use Rattle.std.specs.Prelude.{◌≡◌, ◌≤◌, ◌||◌, [], IfErr, I
 ghost use Rattle.std.specs.List.{AllByRecursion, AllZip, list_all, zip};
 ghost use Rattle.std.specs.Option.{is_some};
 ghost use Rattle.rly_flush.specs.FlusherHistory.{IsServed};
+ghost use Rattle.rly_flush.specs.RoundWatch.{HasWatched};
 ghost use Rattle.rly_line.specs.EndViews.{names_of, new_reply_ends};
 ghost use Rattle.rly_line.specs.ResponderView.{IsLeftBy, IsSeatOf};
 ghost use Rattle.rly_threads.specs.HelpersCut.{AreSeatsOf, GivesBack, IsFor, IsHeard, IsJoined};
@@ -13,7 +14,7 @@ use crate::cut::{CutTurn, TurnOwner, tell_workers};
 use crate::seat_desk::SeatDesk;
 use rly_core::Params;
 use rly_disk::Disk;
-use rly_flush::{Finished, Flusher};
+use rly_flush::{Finished, Flusher, RoundWatch};
 use rly_journal::Journal;
 use rly_line::{ClosedEnd, LeftSeat, LineEnd, Seat, make};
 use rly_link::{Link, Post, Turn, Waker, Worker};
@@ -52,10 +53,10 @@ pub struct Relayed<D: Disk, L: Link, T: Turn, W: Waker> {
 }
 
 /// Starts each worker in a thread of its own, and waits until all have ended. The calling thread runs the flusher,
-/// which answers their calls meanwhile; its rounds pause for `gather` to gather more calls. Once the journal is broken
-/// each worker stops at its next turn, and at once if one of them got no thread; `bell` then ends their waits. If
-/// memory is refused for the queues, the flusher or the threads' results, nothing is started, and the journal is handed
-/// back.
+/// which answers their calls meanwhile; its rounds pause for `gather` to gather more calls, and are shown to `watch`. Once
+/// the journal is broken each worker stops at its next turn, and at once if one of them got no thread; `bell` then ends
+/// their waits. If memory is refused for the queues, the flusher or the threads' results, nothing is started, and the
+/// journal is handed back.
 pub fn run_relay<
     R: Threads + Wait + Clock + Sync,
     D: Disk + Drop,
@@ -63,6 +64,7 @@ pub fn run_relay<
     T: Turn + Drop + Send,
     W: Waker + Drop + Send,
     B: Waker,
+    V: RoundWatch,
 >(
     rt: &R,
     alloc: Global,
@@ -71,6 +73,7 @@ pub fn run_relay<
     plan: &Plan,
     posts: Vec<Post<L, T, W>>,
     bell: &mut B,
+    watch: &mut V,
 ) -> Result<Relayed<D, L, T, W>, Journal<D>>
     requires { (1 ≤ length posts.items) × (length posts.items ≤ 256) }
     // At the end of a new line that has a seat for each worker.
@@ -84,7 +87,7 @@ pub fn run_relay<
     };
     let stop_flag = OnceLock::new();
     run_relay_at(
-        rt, alloc, journal, gather, plan, posts, bell, seats, line_end, &stop_flag,
+        rt, alloc, journal, gather, plan, posts, bell, watch, seats, line_end, &stop_flag,
     )
 }
 
@@ -99,6 +102,7 @@ pub fn run_relay_at<
     T: Turn + Drop + Send,
     W: Waker + Drop + Send,
     B: Waker,
+    V: RoundWatch,
 >(
     rt: &R,
     alloc: Global,
@@ -107,6 +111,7 @@ pub fn run_relay_at<
     plan: &Plan,
     posts: Vec<Post<L, T, W>>,
     bell: &mut B,
+    watch: &mut V,
     seats: Vec<Seat>,
     line_end: LineEnd,
     stop_flag: &OnceLock<bool>,
@@ -134,7 +139,8 @@ pub fn run_relay_at<
             ensures refused { IfErr result (λ back. back ≡ journal) }
         {
             relay_in(
-                scope, rt, alloc, journal, gather, plan, posts, bell, seats, line_end, stop_flag,
+                scope, rt, alloc, journal, gather, plan, posts, bell, watch, seats, line_end,
+                stop_flag,
             )
         },
     )
@@ -151,6 +157,7 @@ fn relay_in<
     T: Turn + Drop + Send + 's,
     W: Waker + Drop + Send + 's,
     B: Waker,
+    V: RoundWatch,
 >(
     scope: &Scope<'s, E>,
     rt: &'s R,
@@ -160,6 +167,7 @@ fn relay_in<
     plan: &'s Plan,
     posts: Vec<Post<L, T, W>>,
     bell: &mut B,
+    watch: &mut V,
     seats: Vec<Seat>,
     line_end: LineEnd,
     stop_flag: &'a OnceLock<bool>,
@@ -191,7 +199,7 @@ fn relay_in<
     let threads = start_all(
         scope, rt, alloc, plan, params, posts, seats, stop_flag, threads,
     );
-    Ok(serve_to_end(rt, flusher, threads, stop_flag, bell, ended))
+    Ok(serve_to_end(rt, flusher, threads, stop_flag, bell, watch, ended))
 }
 
 /// Nothing is started: closes the queues and sets the stop flag.
@@ -242,12 +250,14 @@ fn serve_to_end<
     T: Turn + Drop,
     W: Waker + Drop,
     B: Waker,
+    V: RoundWatch,
 >(
     rt: &R,
     flusher: Flusher<D>,
     threads: Vec<Thread<'a, L, T, W>>,
     stop_flag: &'a OnceLock<bool>,
     bell: &mut B,
+    watch: &mut V,
     empty: Vec<Option<Ended<L, T, W>>>,
 ) -> Relayed<D, L, T, W>
     requires empty { (empty.items ≡ []) × (length threads.items ≤ vec_capacity empty) }
@@ -263,11 +273,13 @@ fn serve_to_end<
         threads.entry.items result.ended.items }
     ensures answered { AreAnsweredBy result.finished.last.value.line result.ended.items }
     ensures told { result.is_cut ≡ is_to_end result.finished.broken result.ended.items }
+    ensures watched { HasWatched (V.shown watch.old) (V.shown watch.new) flusher result.finished.last.value }
     ensures complete { result.complete ≡ list_all has_run_out result.ended.items }
 {
     let mut flusher = flusher;
     forget_missing(&mut flusher, &threads);
-    let (mut finished, said) = serve_and_tell(rt, flusher, stop_flag, bell, have_started(&threads));
+    let are_all = have_started(&threads);
+    let (mut finished, said) = serve_and_tell(rt, flusher, stop_flag, bell, watch, are_all);
     let ended = join_all(rt, threads, &said, &mut finished.lines, empty);
     Relayed {
         complete: have_run_out(&ended),
@@ -279,11 +291,12 @@ fn serve_to_end<
 
 /// Runs the flusher until it ends, and sets the workers' stop flag: if the journal broke, or at once if not all of
 /// them are present. Those that wait then are woken.
-fn serve_and_tell<'a, R: Wait + Clock, D: Disk + Drop, B: Waker>(
+fn serve_and_tell<'a, R: Wait + Clock, D: Disk + Drop, B: Waker, V: RoundWatch>(
     rt: &R,
     flusher: Flusher<D>,
     stop_flag: &'a OnceLock<bool>,
     bell: &mut B,
+    watch: &mut V,
     are_all: bool,
 ) -> (Finished<D>, OnceToken<'a, bool>)
     ensures broken { result.0.broken ≡ result.0.journal.broken }
@@ -292,16 +305,17 @@ fn serve_and_tell<'a, R: Wait + Clock, D: Disk + Drop, B: Waker>(
     ensures closed { IsLeftBy result.0.last.value.line result.0.lines }
     ensures of { result.1.of ≡ stop_flag.now.id }
     ensures said { result.1.value ≡ (result.0.broken || not are_all) }
+    ensures watched { HasWatched (V.shown watch.old) (V.shown watch.new) flusher result.0.last.value }
 {
     if are_all {
-        let finished = flusher.serve(rt);
+        let finished = flusher.serve(rt, watch);
         let said = tell_workers(rt, stop_flag, finished.broken);
         bell.wake_all();
         (finished, said)
     } else {
         let said = tell_workers(rt, stop_flag, true);
         bell.wake_all();
-        (flusher.serve(rt), said)
+        (flusher.serve(rt, watch), said)
     }
 }
 

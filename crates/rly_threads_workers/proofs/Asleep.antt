@@ -43,10 +43,10 @@ use Rattle.rly_plan.proofs.ChangeLaws.{next_change_is}
 use Rattle.rly_plan.proofs.EdgeWaits.{edge_wait-keeps, edge_wait-none}
 use Rattle.rly_threads_workers.specs.Asleep.{AsksOnlyPicks, Lasts}
 use Rattle.rly_threads_workers.specs.DeskExchanges.{BatchOutcome}
-use Rattle.rly_threads_workers.specs.SenderState.{action_on, control_on_release, control_on_report, let_out, on_moment, rate_room, send_room, set_back_if, with_contact, with_custody, with_report}
-use Rattle.rly_threads_workers.specs.SenderTurns.{SenderWorker, after_out_event, again_numbers, call_at, calls_from, core_count, core_requests, edge_moment, event_in, has_changed, held_back, is_at_rest, named_ask, or_pick, repeat_count, sender_events, sender_on_calls, sender_packets, sender_requests, sender_sent, sender_sleep, sender_turn, sent_on, sleep_until, turn_calls, wants_room, work_moment}
+use Rattle.rly_threads_workers.specs.SenderState.{action_on, control_on_release, control_on_reports, let_out, no_reports, on_moment, rate_room, send_room, set_back_if, with_contact, with_custody, with_left, with_reports}
+use Rattle.rly_threads_workers.specs.SenderTurns.{SenderWorker, after_out_event, again_numbers, call_at, calls_from, contact_left, core_count, core_requests, edge_moment, event_in, has_changed, held_back, is_at_rest, named_ask, or_pick, repeat_count, sender_events, sender_on_calls, sender_packets, sender_requests, sender_sent, sender_sleep, sender_turn, sent_on, sleep_until, turn_calls, wants_room, work_moment}
 use Rattle.rly_threads_workers.specs.Turns.{Given, Made}
-use Rattle.rly_threads_workers.specs.declared.sender_state.Report.{Report}
+use Rattle.rly_threads_workers.specs.declared.sender_state.Reports.{Reports}
 use Rattle.rly_threads_workers.specs.declared.sender_state.SenderState.{SenderState}
 
 -- each call is a Pick
@@ -202,21 +202,21 @@ contact_cases false p q none = refl
 same_contact : (p : SenderState) → with_contact p p.pace.is_open ≡ p
 same_contact p = contact_cases (is_opening p.pace p.pace.is_open) p _ (not_both p.pace.is_open)
 
-told_nothing : (p : SenderState) (at : ℕ) → turn_action p.core false ≡ None → p.report ≡ None → with_report (with_custody p at) at ≡ p
+told_nothing : (p : SenderState) (at : ℕ) → turn_action p.core false ≡ None → p.reports ≡ no_reports → with_reports (with_custody p at) at ≡ p
 told_nothing p at closed none =
-    ap (λ (x : Option (OutAction (List ℕ))). with_report (record p { pace = control_on_release p.pace x at }) at) closed
-    ∙ ap (λ (r : Option Report). record p { pace = control_on_report p.pace r at; report = None }) none
-    ∙ sym (λ i. record p { report = none i })
+    ap (λ (x : Option (OutAction (List ℕ))). with_reports (record p { pace = control_on_release p.pace x at }) at) closed
+    ∙ ap (λ (r : Reports). record p { pace = control_on_reports p.pace r at; reports = no_reports }) none
+    ∙ sym (λ i. record p { reports = none i })
 
-same_moment : (p : SenderState) (is_open : Bool) (at : ℕ) → turn_action p.core false ≡ None → p.report ≡ None → is_open ≡ p.pace.is_open
+same_moment : (p : SenderState) (is_open : Bool) (at : ℕ) → turn_action p.core false ≡ None → p.reports ≡ no_reports → is_open ≡ p.pace.is_open
     → on_moment p is_open at ≡ record p { pace = on_time p.pace at }
 same_moment p is_open at closed none same =
-    let told : with_report (with_custody (with_contact p is_open) at) at ≡ p =
-    ap (λ b. with_report (with_custody (with_contact p b) at) at) same ∙ ap (λ (q : SenderState). with_report (with_custody q at) at) (same_contact p)
+    let told : with_reports (with_custody (with_contact p is_open) at) at ≡ p =
+    ap (λ b. with_reports (with_custody (with_contact p b) at) at) same ∙ ap (λ (q : SenderState). with_reports (with_custody q at) at) (same_contact p)
     ∙ told_nothing p at closed none in
     ap (λ (q : SenderState). record q { pace = on_time q.pace at }) told
 
-same_requests : (p : SenderState) (is_open : Bool) (most at : ℕ) → turn_action p.core false ≡ None → p.report ≡ None → is_open ≡ p.pace.is_open
+same_requests : (p : SenderState) (is_open : Bool) (most at : ℕ) → turn_action p.core false ≡ None → p.reports ≡ no_reports → is_open ≡ p.pace.is_open
     → NothingToSend (record p { pace = on_time p.pace at }) p.drained (send_room (record p { pace = on_time p.pace at }) at) at
     → OnlyIfDrained p.drained (core_requests most (send_room (on_moment p is_open at) at) at (on_moment p is_open at)).calls
 same_requests p is_open most at closed none same nothing =
@@ -254,11 +254,11 @@ idle_or_held p s at later before =
     ]
 
 -- the contact ended
-closing_requests : (p : SenderState) (most at : ℕ) → turn_action p.core false ≡ None → p.report ≡ None
+closing_requests : (p : SenderState) (most at : ℕ) → turn_action p.core false ≡ None → p.reports ≡ no_reports
     → OnlyIfDrained p.drained (core_requests most (send_room (on_moment p false at) at) at (on_moment p false at)).calls
 closing_requests p most at closed none =
     let q : SenderState = record p { pace = record p.pace { is_open = false } } in
-    let told : with_report (with_custody q at) at ≡ q = told_nothing q at closed none in
+    let told : with_reports (with_custody q at) at ≡ q = told_nothing q at closed none in
     let ready : SenderState = record q { pace = on_time q.pace at } in
     subst (λ (r : SenderState). OnlyIfDrained p.drained (core_requests most (send_room r at) at r).calls)
     (sym (ap (λ (r : SenderState). record r { pace = on_time r.pace at }) told))
@@ -320,7 +320,7 @@ opening_cases : (opening : Bool) (p : SenderState) (q r : ControlView) → openi
 opening_cases true p q r opens = refl
 opening_cases false p q r opens = absurd (cc)
 
-opening_requests : (p : SenderState) (most at : ℕ) → turn_action p.core false ≡ None → p.report ≡ None → p.pace.is_open ≡ false
+opening_requests : (p : SenderState) (most at : ℕ) → turn_action p.core false ≡ None → p.reports ≡ no_reports → p.pace.is_open ≡ false
     → p.drained ≡ true → (p.core.first == p.core.next) ≡ true
     → OnlyIfDrained p.drained (core_requests most (send_room (on_moment p true at) at) at (on_moment p true at)).calls
 opening_requests p most at closed none was drained idle =
@@ -337,8 +337,8 @@ opening_requests p most at closed none was drained idle =
     } in
     let q : SenderState = record p { core = record p.core { cursor = p.core.first }; pace = v } in
     let opens : with_contact p true ≡ q = opening_cases (is_opening p.pace true) p v _ (ap not was) in
-    let told : with_report (with_custody (with_contact p true) at) at ≡ q =
-    ap (λ (r : SenderState). with_report (with_custody r at) at) opens ∙ told_nothing q at closed none in
+    let told : with_reports (with_custody (with_contact p true) at) at ≡ q =
+    ap (λ (r : SenderState). with_reports (with_custody r at) at) opens ∙ told_nothing q at closed none in
     let ready : SenderState = record q { pace = on_time v at } in
     let again = nothing_again v at refl refl in
     let wants : wants_room p.drained (turn_action q.core true) ≡ false =
@@ -382,7 +382,7 @@ both_true : (a b : Bool) → (a && b) ≡ true → (a ≡ true) × (b ≡ true)
 both_true true b both = (refl, both)
 both_true false b both = absurd (cc)
 
-rest_requests : (p : SenderState) (is_open was : Bool) (most s at : ℕ) → s ≤ at → IsBefore at (work_moment p s) → turn_action p.core false ≡ None → p.report ≡ None
+rest_requests : (p : SenderState) (is_open was : Bool) (most s at : ℕ) → s ≤ at → IsBefore at (work_moment p s) → turn_action p.core false ≡ None → p.reports ≡ no_reports
     → was ≡ p.pace.is_open → is_at_rest p ≡ true
     → OnlyIfDrained p.drained (core_requests most (send_room (on_moment p is_open at) at) at (on_moment p is_open at)).calls
 rest_requests p true true most s at later before closed none was rest =
@@ -395,18 +395,19 @@ rest_requests p true false most s at later before closed none was rest =
     opening_requests p most at closed none (sym was) both.0 both.1
 
 -- the calls of a turn to which no packet comes
-quiet_calls : (w : SenderWorker) (most : ℕ) (p : SenderState) (given : Given) → p.failed ≡ false → p.report ≡ None → given.packets ≡ []
+quiet_calls : (w : SenderWorker) (most : ℕ) (p : SenderState) (given : Given) → p.failed ≡ false → p.reports ≡ no_reports → given.packets ≡ []
     → given.start.since ≤ given.heard.since → Lasts (sender_sleep w p given.start) given.heard.since
     → (is_open w.plan w.hop given.heard.now ≡ p.pace.is_open) ⊎ (is_at_rest p ≡ true)
     → OnlyIfDrained p.drained (sender_requests w most p (take 64 given.packets) given.heard).calls
 quiet_calls w most p given fine none quiet later lasts contact =
     let at = given.heard.since in
     let opened = is_open w.plan w.hop given.heard.now in
+    let q = with_left (contact_left w given.heard.now) p in
     let asleep = sleeping w p given.start at fine lasts in
-    let calls : OnlyIfDrained p.drained (core_requests most (send_room (on_moment p opened at) at) at (on_moment p opened at)).calls =
+    let calls : OnlyIfDrained p.drained (core_requests most (send_room (on_moment q opened at) at) at (on_moment q opened at)).calls =
     elim contact [
-      | inl same ↦ same_requests p opened most at asleep.closed none same (idle_or_held p given.start.since at later asleep.work)
-      | inr rest ↦ rest_requests p opened p.pace.is_open most given.start.since at later asleep.work asleep.closed none refl rest
+      | inl same ↦ same_requests q opened most at asleep.closed none same (idle_or_held q given.start.since at later asleep.work)
+      | inr rest ↦ rest_requests q opened p.pace.is_open most given.start.since at later asleep.work asleep.closed none refl rest
     ] in
     subst (λ (l : List (List ℕ)). OnlyIfDrained p.drained (sender_requests w most p (take 64 l) given.heard).calls) (sym quiet) calls
 
@@ -414,7 +415,7 @@ no_asks : (w : SenderWorker) (now : ℕ) (made : Made) (p : SenderState) (calls 
     → (sender_on_calls w now made p calls).asked ≡ []
 no_asks w now made p calls none = ap (λ l. (sender_on_calls w now made p l).asked) none
 
-pub sleep_misses_nothing : (w : SenderWorker) (most : ℕ) (p : SenderState) (given : Given) → p.failed ≡ false → p.report ≡ None → given.packets ≡ []
+pub sleep_misses_nothing : (w : SenderWorker) (most : ℕ) (p : SenderState) (given : Given) → p.failed ≡ false → p.reports ≡ no_reports → given.packets ≡ []
     → given.start.since ≤ given.heard.since → Lasts (sender_sleep w p given.start) given.heard.since
     → (is_open w.plan w.hop given.heard.now ≡ p.pace.is_open) ⊎ (is_at_rest p ≡ true)
     → ((sender_turn w most p given).sent ≡ []) × AsksOnlyPicks w given.heard.now (sender_turn w most p given).asked
@@ -457,16 +458,16 @@ contact_lasts w p start heard sound fine awake lasts later slower =
     ∙ same_cases p.pace.is_open (is_open w.plan w.hop start.now) asleep.same
 
 -- no turn leaves a Heard behind
-fold_keeps : (in_contact : Bool) (at : ℕ) (p : SenderState) (told : List (OutEvent (List ℕ))) → (fold (after_out_event in_contact at) p told).report ≡ p.report
+fold_keeps : (in_contact : Bool) (at : ℕ) (p : SenderState) (told : List (OutEvent (List ℕ))) → (fold (after_out_event in_contact at) p told).reports ≡ p.reports
 fold_keeps in_contact at p [] = refl
 fold_keeps in_contact at p (e ∷ told) = fold_keeps in_contact at (after_out_event in_contact at p e) told
 
-calls_keep : (w : SenderWorker) (now : ℕ) (made : Made) (p : SenderState) (calls : List (OutAction (List ℕ))) → (sender_on_calls w now made p calls).core.report ≡ p.report
+calls_keep : (w : SenderWorker) (now : ℕ) (made : Made) (p : SenderState) (calls : List (OutAction (List ℕ))) → (sender_on_calls w now made p calls).core.reports ≡ p.reports
 calls_keep w now made p [] = refl
 calls_keep w now made p (call ∷ calls) =
     fold_keeps (is_open w.plan w.hop made.after.now) made.after.since p (sender_events (call ∷ calls) made.outcome)
 
-pub report_is_used : (w : SenderWorker) (most : ℕ) (p : SenderState) (given : Given) → (sender_turn w most p given).core.report ≡ None
-report_is_used w most p given =
+pub reports_are_used : (w : SenderWorker) (most : ℕ) (p : SenderState) (given : Given) → (sender_turn w most p given).core.reports ≡ no_reports
+reports_are_used w most p given =
     let first = sender_requests w most p (take 64 given.packets) given.heard in
     calls_keep w given.heard.now given.made first.state first.calls

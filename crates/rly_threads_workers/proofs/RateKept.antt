@@ -18,8 +18,8 @@ use Rattle.rly_hop_pacing.specs.Rates.{burst, cost, first_bucket, may_take, on_t
 use Rattle.rly_hop_pacing.proofs.RateLaws.{later_mark, paid as pays, same_rate}
 use Rattle.rly_plan.specs.ContactPlan.{is_open}
 use Rattle.rly_threads_workers.specs.declared.sender_state.SenderState.{SenderState}
-use Rattle.rly_threads_workers.specs.SenderTurns.{SenderWorker, again_numbers, calls_from, core_count, or_pick, repeat_count, after_out_event, sender_events, sender_on_calls, sender_on_packet, sender_packets, sender_sent, sender_turn, sent_on}
-use Rattle.rly_threads_workers.specs.SenderState.{action_on, first_sender_state, let_out, on_moment, rate_after, send_room, sender_on_hearing, set_back_if}
+use Rattle.rly_threads_workers.specs.SenderTurns.{SenderWorker, again_numbers, calls_from, contact_left, core_count, or_pick, repeat_count, after_out_event, sender_events, sender_on_calls, sender_on_packet, sender_packets, sender_sent, sender_turn, sent_on}
+use Rattle.rly_threads_workers.specs.SenderState.{action_on, first_sender_state, let_out, on_moment, rate_after, send_room, sender_on_hearing, set_back_if, with_left}
 use Rattle.rly_threads_workers.specs.RateKept.{earliest, latest, total_cost}
 use Rattle.rly_threads_workers.specs.Turns.{Given, Made, done_in}
 
@@ -205,7 +205,7 @@ turn_rated : (lo hi : ℕ) (w : SenderWorker) (most : ℕ) (p : SenderState) (b 
     → Rated lo hi b (sender_turn w most p given).core.rate (sender_turn w most p given).sent
 turn_rated lo hi w most p b given has low high =
     let packets = take 64 given.packets in
-    let heard = fold sender_on_packet p packets in
+    let heard = with_left (contact_left w given.heard.now) (fold sender_on_packet p packets) in
     let in_contact = is_open w.plan w.hop given.heard.now in
     let at = given.heard.since in
     let ready = on_moment heard in_contact at in

@@ -7,6 +7,7 @@ use Rattle.std.proofs.lemmas.Grind.{flat_map-append}
 use Rattle.std.proofs.lemmas.List.{append-nil, append_assoc, length-append, map-append, reverse-append, take_all}
 use Rattle.std.proofs.lemmas.List.Elements.{filter_map-append}
 use Rattle.rly_hop.specs.declared.message.Message.{Message}
+use Rattle.rly_hop.specs.declared.message.StationId.{StationId}
 use Rattle.rly_core.specs.declared.ids.PeerId.{PeerId}
 use Rattle.rly_hop.specs.Receiver.{Receiver}
 use Rattle.rly_hop.specs.Receiving.{receiver}
@@ -164,12 +165,13 @@ one_unless : (w : NamedTake) (lacks : Bool) → length (if lacks then [] else w 
 one_unless w true = omega arith
 one_unless w false = omega arith
 
-take_one : (w : ReceiverWorker) (most now : ℕ) (refused : Bool) (core : Receiver) (taken : Option (ℕ × ℕ × List ℕ)) → length (take_of w most now refused core taken) ≤ 1
-take_one w most now refused core None = omega arith
-take_one w most now refused core (Some taken) = one_unless _ (lacks_memory most taken.2 refused)
+take_one : (w : ReceiverWorker) (station : StationId) (most now : ℕ) (refused : Bool) (core : Receiver) (taken : Option (ℕ × ℕ × List ℕ))
+    → length (take_of w station most now refused core taken) ≤ 1
+take_one w station most now refused core None = omega arith
+take_one w station most now refused core (Some taken) = one_unless _ (lacks_memory most taken.2 refused)
 
 pub one_at_most : (w : ReceiverWorker) (most : ℕ) (r : Receiver) (now : ℕ) (refused : Bool) (m : Option (Message (List ℕ))) → length (wanted_by w most r now refused m) ≤ 1
-one_at_most w most r now refused m = take_one w most now refused _ _
+one_at_most w most r now refused m = take_one w r.peer most now refused _ _
 
 -- no more Takes than packets
 wanted_few : (w : ReceiverWorker) (most : ℕ) (r : Receiver) (packets : List Arrival) → length (flat_map (takes_of_packet w most r) packets) ≤ length packets

@@ -28,8 +28,8 @@ use Rattle.rly_threads_workers.specs.DeskExchanges.{batch_outcome}
 use Rattle.rly_link.specs.LinkHistory.{TellsMore, new_hearing}
 use Rattle.rly_threads_workers.specs.declared.calls.Calls.{Calls}
 use Rattle.rly_threads_workers.specs.declared.sender_state.SenderState.{SenderState}
-use Rattle.rly_threads_workers.specs.SenderTurns.{SenderWorker, again_numbers, call_at, calls_from, core_call_at, core_count, core_requests, event_in, named_ask, or_pick, repeat_count, after_out_event, sender_worker, sender_done, sender_events, sender_on_calls, sender_on_packet, sender_requests, sender_sent, sender_sleep, sender_turn, sent_on}
-use Rattle.rly_threads_workers.specs.SenderState.{first_sender_state, on_moment, send_room}
+use Rattle.rly_threads_workers.specs.SenderTurns.{SenderWorker, again_numbers, call_at, calls_from, contact_left, core_call_at, core_count, core_requests, event_in, named_ask, or_pick, repeat_count, after_out_event, sender_worker, sender_done, sender_events, sender_on_calls, sender_on_packet, sender_requests, sender_sent, sender_sleep, sender_turn, sent_on}
+use Rattle.rly_threads_workers.specs.SenderState.{first_sender_state, on_moment, send_room, with_left}
 use Rattle.rly_threads_workers.specs.HelpersTurns.{AreListed, Did, HasCallRoom, HasHeard, HasHandedEvent, HasNumbers, HasRequested, IsCall, IsSameTurn, answers_in, asks_in, coming_in, outcome_events}
 use Rattle.rly_threads_workers.specs.Runs.{EndsView, Ran}
 use Rattle.rly_link.specs.declared.link.Sleep.{Sleep}
@@ -366,18 +366,18 @@ one_call_at_least c (inl many) = omega (arith, many.0)
 one_call_at_least c (inr one) = omega (arith, one.0)
 
 -- the first half of a turn, after its start
-pub requested : (w : SenderWorker) (most : ℕ) (old told new : EndsView) (p heard ready after : SenderState) (c : Calls) (start : Go) (packets : List (List ℕ)) (go : Go) (in_contact : Bool)
+pub requested : (w : SenderWorker) (most : ℕ) (old told new : EndsView) (p heard ready after : SenderState) (c : Calls) (start : Go) (packets : List (List ℕ)) (go : Go) (left : Option ℕ) (in_contact : Bool)
     → HasHeard (sender_sleep w p start) old told p heard packets
     → TellsMore told.handed new.handed ((worker.Sender w.hop, Heard, go) ∷ [])
     → new ≡ record told { handed = new.handed }
-    → in_contact ≡ is_open w.plan w.hop go.now → ready ≡ on_moment heard in_contact go.since
+    → left ≡ contact_left w go.now → in_contact ≡ is_open w.plan w.hop go.now → ready ≡ on_moment (with_left left heard) in_contact go.since
     → after ≡ (core_requests most (send_room ready go.since) go.since ready).state
     → AreListed w go.now c (core_requests most (send_room ready go.since) go.since ready).calls
     → HasRequested w most old new p after c start packets go
-requested w most old told new p heard ready after c start packets go in_contact hears at quiet opening moment state calls =
+requested w most old told new p heard ready after c start packets go left in_contact hears at quiet lasts opening moment state calls =
     let same : new.heard ≡ told.heard = ap (λ t. t.heard) quiet in
-    let ready_is : ready ≡ on_moment (fold sender_on_packet p packets) (is_open w.plan w.hop go.now) go.since =
-    moment ∙ (λ i. on_moment (hears.core i) (opening i) go.since) in
+    let ready_is : ready ≡ on_moment (with_left (contact_left w go.now) (fold sender_on_packet p packets)) (is_open w.plan w.hop go.now) go.since =
+    moment ∙ (λ i. on_moment (with_left (lasts i) (hears.core i)) (opening i) go.since) in
     record {
       few = hears.few;
       heard = subst (λ h. TellsMore old.heard h (hearings_from (sender_sleep w p start) (receives_of packets))) (sym same) hears.heard;

@@ -2,11 +2,11 @@
 use Rattle.std.specs.Prelude.{ℕ, ◌==◌, max, List, [], ◌∷◌, ◌++◌, map, take, length, nat_lt, Bool, true, false, ◌&&◌}
 use Rattle.std.specs.Prelude.{◌||◌, if◌then◌else◌, Option, Some, None, unwrap_or, Ok, Err}
 use Rattle.std.specs.List.{filter_map, flat_map, reduce, zip}
-use Rattle.byteorder.specs.Endian.{big_number}
 use Rattle.rly_core.specs.declared.ids.HopId.{HopId}
 use Rattle.rly_core.specs.declared.ids.PeerId.{PeerId}
 use Rattle.rly_hop.specs.declared.message.Message.{Message}
 use Rattle.rly_hop.specs.declared.message.Message.TheVariants as message
+use Rattle.rly_hop.specs.declared.message.StationId.{StationId}
 use Rattle.rly_hop.specs.declared.receiving.event.InAction.{InAction}
 use Rattle.rly_hop.specs.declared.receiving.event.InAction.TheVariants.{Take, Send}
 use Rattle.rly_hop.specs.declared.receiving.event.InEvent.{InEvent}
@@ -38,11 +38,9 @@ pub record ReceiverWorker : Type 0 where
 abbrev pub receiver_worker : ContactPlan → PeerId → ReceiverWorker
 receiver_worker plan peer = record { plan = plan; peer = peer }
 
--- the hop of a payload, by its first two bytes: hop 0 if it is shorter or there is no route
-abbrev pub hop_of_payload : ContactPlan → List ℕ → HopId
-hop_of_payload plan payload =
-    if nat_lt (length payload) 2 then record { 0 = 0 }
-    else unwrap_or (hop_for plan (big_number 2 payload)) (record { 0 = 0 })
+-- the hop of a payload that the peer's station gives, by the routing rule: hop 0 if the plan has none for it
+abbrev pub hop_of_payload : ContactPlan → StationId → List ℕ → HopId
+hop_of_payload plan station payload = unwrap_or (hop_for plan station.0 payload) (record { 0 = 0 })
 
 -- the command that stores a datagram, stamped by the link clock of its hop, with its limit
 abbrev pub take_ask : ReceiverWorker → (now number : ℕ) → HopId → (limit : ℕ) → List ℕ → Ask
@@ -125,18 +123,18 @@ pub record NamedTake : Type 0 where
 abbrev pub lacks_memory : ℕ → List ℕ → Bool → Bool
 lacks_memory most payload refused = refused && ((most == 1) || nat_lt 0 (length payload))
 
-abbrev pub take_of : ReceiverWorker → ℕ → ℕ → Bool → Receiver → Option (ℕ × ℕ × List ℕ) → List NamedTake
-take_of w most now refused core None = []
-take_of w most now refused core (Some taken) =
+abbrev pub take_of : ReceiverWorker → StationId → ℕ → ℕ → Bool → Receiver → Option (ℕ × ℕ × List ℕ) → List NamedTake
+take_of w station most now refused core None = []
+take_of w station most now refused core (Some taken) =
     if lacks_memory most taken.2 refused then []
     else
-    let hop = hop_of_payload w.plan taken.2 in
+    let hop = hop_of_payload w.plan station taken.2 in
     record { core = core; hop = hop; ask = take_ask w now taken.0 hop taken.1 taken.2 } ∷ []
 
--- the Take of a message at a moment, if it leads to one, for a core in this state
+-- the Take of a message at a moment, if it leads to one, for a core in this state, whose peer gave the message
 abbrev pub wanted_by : ReceiverWorker → ℕ → Receiver → ℕ → Bool → Option (Message (List ℕ)) → List NamedTake
 wanted_by w most r now refused m =
-    let heard = receiver_on_hearing r m in take_of w most now refused heard.0 (datagram_in heard.1)
+    let heard = receiver_on_hearing r m in take_of w r.peer most now refused heard.0 (datagram_in heard.1)
 
 -- the Take of a packet, at the moment after it was received
 abbrev pub takes_of_packet : ReceiverWorker → ℕ → Receiver → Arrival → List NamedTake

@@ -14,10 +14,15 @@ use Rattle.rly_hop.specs.Sending.{repeat_action, reports_flight, sending_step, t
 use Rattle.rly_hop.specs.Spelling.{longest_message}
 use Rattle.rly_hop_pacing.specs.declared.rate.Bucket.{Bucket}
 use Rattle.rly_hop_pacing.specs.CongestionControl.{ControlView, first_control, is_opening, on_contact, on_covered, on_heard}
-use Rattle.rly_hop_pacing.specs.CongestionControl.{on_sent, on_time, on_window, open_room}
+use Rattle.rly_hop_pacing.specs.CongestionControl.{on_custody, on_left, on_sent, on_time, on_window, open_room}
 use Rattle.rly_hop_pacing.specs.Rates.{first_bucket, may_take, on_take, room_at}
 use Rattle.rly_threads_workers.specs.declared.sender_state.Report.{Report}
+use Rattle.rly_threads_workers.specs.declared.sender_state.Reports.{Reports}
 use Rattle.rly_threads_workers.specs.declared.sender_state.SenderState.{SenderState}
+
+-- nothing was received in this turn
+abbrev pub no_reports : Reports
+no_reports = record { custody = false; heard = None }
 
 -- Initially, in a spool with these parameters: one Pick may be submitted, no contact is open, and the burst is
 -- available. `resend` in milliseconds, the rate in bytes a second; the longest message has the spool's longest
@@ -30,23 +35,25 @@ first_sender_state core params resend rate = record {
   picks = 1;
   pace = first_control resend params.window (is_some rate);
   rate = option_map (λ r. first_bucket r (longest_message params.payload) 0) rate;
-  report = None;
+  reports = no_reports;
 }
 
--- a Heard on the flight is kept until the turn's time, the last one of a turn
-abbrev pub report_after : SenderState → Message (List ℕ) → Option Report
-report_after p (message.Heard from to last bits) =
-    if reports_flight p.core from to last then Some (record { last = last; bits = bits }) else p.report
-report_after p (message.Data from to number limit payload) = p.report
-report_after p (message.Custody from to last) = p.report
-report_after p (message.Refused from to number refusal) = p.report
+-- a Heard on the flight is kept until the turn's time, the last one of a turn, and that a Custody of the number before the
+-- flight or of one in it came
+abbrev pub reports_after : SenderState → Message (List ℕ) → Reports
+reports_after p (message.Heard from to last bits) =
+    if reports_flight p.core from to last then record p.reports { heard = Some (record { last = last; bits = bits }) } else p.reports
+reports_after p (message.Data from to number limit payload) = p.reports
+reports_after p (message.Custody from to last) =
+    if reports_flight p.core from to last then record p.reports { custody = true } else p.reports
+reports_after p (message.Refused from to number refusal) = p.reports
 
 -- the state after a message, if one was received: the core gets it
 abbrev pub sender_on_hearing : SenderState → Option (Message (List ℕ)) → SenderState
 sender_on_hearing p None = p
 sender_on_hearing p (Some m) = record p {
   core = (sending_step p.core (event.Heard m)).0;
-  report = report_after p m;
+  reports = reports_after p m;
 }
 
 -- the core gets a Timeout, if this is true
@@ -76,13 +83,26 @@ abbrev pub control_on_report : ControlView → Option Report → ℕ → Control
 control_on_report pace None at = pace
 control_on_report pace (Some report) at = on_heard pace report.last report.bits at
 
-abbrev pub with_report : SenderState → ℕ → SenderState
-with_report p at = record p { pace = control_on_report p.pace p.report at; report = None }
+-- and that a Custody came
+abbrev pub control_on_custody : ControlView → Bool → ℕ → ControlView
+control_on_custody pace false at = pace
+control_on_custody pace true at = on_custody pace at
 
--- the state at the turn's time, after the packets were received: a custody precedes a Heard, and both precede a Timeout
+abbrev pub control_on_reports : ControlView → Reports → ℕ → ControlView
+control_on_reports pace reports at = control_on_custody (control_on_report pace reports.heard at) reports.custody at
+
+abbrev pub with_reports : SenderState → ℕ → SenderState
+with_reports p at = record p { pace = control_on_reports p.pace p.reports at; reports = no_reports }
+
+-- this much is left of the contact
+abbrev pub with_left : Option ℕ → SenderState → SenderState
+with_left left p = record p { pace = on_left p.pace left }
+
+-- The state at the turn's time, after the packets were received: a custody of more precedes a Heard, that precedes what a Custody
+-- says of the hop's station, and all precede a Timeout.
 abbrev pub on_moment : SenderState → Bool → ℕ → SenderState
 on_moment p is_open at =
-    let told = with_report (with_custody (with_contact p is_open) at) at in
+    let told = with_reports (with_custody (with_contact p is_open) at) at in
     record told { pace = on_time told.pace at }
 
 -- of this many messages, how many the rate permits at a moment, if each may be the longest

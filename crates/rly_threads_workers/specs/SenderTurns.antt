@@ -25,12 +25,12 @@ use Rattle.rly_hop_pacing.specs.declared.rate.Bucket.{Bucket}
 use Rattle.rly_link.specs.declared.link.Sleep.{Sleep}
 use Rattle.rly_link.specs.declared.link.Sleep.TheVariants as sleep
 use Rattle.rly_link.specs.declared.turn.Go.{Go}
-use Rattle.rly_plan.specs.ContactPlan.{ContactPlan, edge_wait, is_open, link}
+use Rattle.rly_plan.specs.ContactPlan.{ContactPlan, edge_wait, is_open, link, next_change}
 use Rattle.rly_threads_workers.specs.declared.sender_state.SenderState.{SenderState}
 use Rattle.rly_link.specs.declared.turn.Worker.TheVariants as worker
 use Rattle.rly_threads_workers.specs.DeskExchanges.{BatchOutcome}
 use Rattle.rly_threads_workers.specs.SenderState.{action_on, control_on_answer, control_on_named, let_out, on_moment}
-use Rattle.rly_threads_workers.specs.SenderState.{rate_after, send_room, sender_on_hearing}
+use Rattle.rly_threads_workers.specs.SenderState.{rate_after, send_room, sender_on_hearing, with_left}
 use Rattle.rly_link.specs.LinkHistory.{message_in}
 use Rattle.rly_threads_workers.specs.Turns.{Done, Given, Made, around_call, nothing_done}
 use Rattle.rly_threads_workers.specs.Turns.{packets_of, with_hearings, with_start}
@@ -203,7 +203,7 @@ after_out_event in_contact at p told = record {
   picks = picks_after p.picks told;
   pace = control_on_named (control_on_answer p.pace told) (action_on p.core told) at;
   rate = rate_after p.rate (sender_packets in_contact (action_on p.core told)) at;
-  report = p.report;
+  reports = p.reports;
 }
 
 -- the packets sent on these events of the core, in order
@@ -307,11 +307,16 @@ core_requests most room at p =
     let acting : SenderState = record p { core = left.0; drained = false; failed = false } in
     record { state = acting; calls = turn_calls most room acting again left.1 }
 
+-- how much is left of its contact while it is open; None if it has no end
+abbrev pub contact_left : SenderWorker → (now : ℕ) → Option ℕ
+contact_left w now = option_map (λ change. change - now) (next_change w.plan w.hop now)
+
 -- The first half of a turn, after its receives: it ends with the calls to submit. It uses the time of the tick after the
 -- receives.
 abbrev pub sender_requests : SenderWorker → (most : ℕ) → SenderState → (packets : List (List ℕ)) → (heard : Go) → Requests
 sender_requests w most p packets heard =
-    let ready = on_moment (fold sender_on_packet p packets) (is_open w.plan w.hop heard.now) heard.since in
+    let heard_all = with_left (contact_left w heard.now) (fold sender_on_packet p packets) in
+    let ready = on_moment heard_all (is_open w.plan w.hop heard.now) heard.since in
     core_requests most (send_room ready heard.since) heard.since ready
 
 -- One turn, after its start, of at most this many calls. It receives up to 64 packets; its second half begins with the

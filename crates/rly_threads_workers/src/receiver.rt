@@ -16,7 +16,6 @@ ghost use Rattle.rly_threads_workers.specs.Turns.{woken_if};
 
 use crate::desk::Desk;
 use crate::ends::{Buffer, Ends, message_in, sleep_at};
-use byteorder::{BigEndian, ByteOrder};
 use rly_core::{HopId, PeerId, limits};
 use rly_hop::{InAction, InEvent, Message, Receiving, StationId, TakeAnswer};
 use rly_link::{Link, MAX_PACKET, Point, Sleep, Turn, Waker, Worker};
@@ -229,7 +228,7 @@ impl<'a> ReceiverWorker<'a> {
         let Ok(payload) = Payload::copy_of(alloc, payload) else {
             return;
         };
-        let hop = hop_of_payload(self.plan, payload.as_slice());
+        let hop = hop_of_payload(self.plan, self.station, payload.as_slice());
         let ask = self.take_ask(now, number, hop, limit, payload);
         takes.asks.push_reserved(ask);
         takes.waiting.push_reserved((core, hop));
@@ -349,15 +348,11 @@ fn greater(last: Option<u64>, number: Option<u64>) -> Option<u64>
     }
 }
 
-/// The hop of a payload, by its first two bytes: hop 0, which doesn't exist, if it is shorter or there is no route.
-fn hop_of_payload(plan: &Plan, payload: &[u8]) -> HopId
-    ensures { result ≡ hop_of_payload plan.now payload.now }
+/// The hop of a payload that the peer's station gives: hop 0, which doesn't exist, if the plan has none for it.
+fn hop_of_payload(plan: &Plan, station: StationId, payload: &[u8]) -> HopId
+    ensures { result ≡ hop_of_payload plan.now station payload.now }
 {
-    if payload.len() < 2 {
-        return HopId(0);
-    }
-    plan.hop_for(BigEndian::read_u16(payload))
-        .unwrap_or(HopId(0))
+    plan.hop_for(station.0, payload).unwrap_or(HopId(0))
 }
 
 /// The core's event for the reply to its Take.

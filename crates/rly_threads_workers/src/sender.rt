@@ -14,10 +14,10 @@ ghost use Rattle.rly_plan.specs.Sound.{IsSoundPlan};
 ghost use Rattle.rly_threads_workers.specs.declared.sender_state.SenderState.{SenderState as Keeping};
 ghost use Rattle.rly_threads_workers.specs.Asleep.{AsksOnlyPicks, Lasts};
 ghost use Rattle.rly_threads_workers.specs.SenderTurns.{SenderWorker as Handing};
-ghost use Rattle.rly_threads_workers.specs.SenderState.{first_sender_state, send_room, sender_on_hearing};
-ghost use Rattle.rly_threads_workers.specs.Strays.{is_on_flight};
+ghost use Rattle.rly_threads_workers.specs.SenderState.{first_sender_state, no_reports, send_room, sender_on_hearing};
+ghost use Rattle.rly_threads_workers.specs.Strays.{IsEarly, is_of_nothing_more, is_on_flight};
 ghost use Rattle.rly_threads_workers.specs.RateKept.{earliest, latest, left_by, sent_in, total_cost};
-ghost use Rattle.rly_threads_workers.specs.SenderTurns.{call_count, calls_from, core_count, core_requests};
+ghost use Rattle.rly_threads_workers.specs.SenderTurns.{call_count, calls_from, contact_left, core_count, core_requests};
 ghost use Rattle.rly_threads_workers.specs.SenderTurns.{edge_moment, error_event, event_in, has_changed, is_at_rest};
 ghost use Rattle.rly_threads_workers.specs.SenderTurns.{named_ask, or_pick};
 ghost use Rattle.rly_threads_workers.specs.SenderTurns.{repeat_count, sender_done, sender_on_packet, sender_sleep};
@@ -101,15 +101,25 @@ pub fn law_turns_keep_the_rate()
         + bytes * (latest first later - earliest first later) }
 {}
 
-/// No packet on a hop's port makes the sender send, except a custody of a number in flight and a Heard on the flight: a
-/// turn that receives another packet asks and sends as it would without it, at the same moments, and leaves the same
-/// state.
+/// No packet on a hop's port makes the sender send, except a Custody and a Heard of the number before the flight or of one in
+/// it: a turn that receives another packet asks and sends as it would without it, at the same moments, and leaves the same
+/// state. A Custody of the number before the flight, which covers nothing more, draws nothing before `resend` has passed since
+/// the first number in flight was last sent and since custody last covered more: a turn that receives it asks and sends as it
+/// would without it, unless a Timeout is due in it. After that it draws that first number alone (`law_custody_draws_one` of
+/// `rly_hop_pacing`), so a flood of them draws one Data for each `resend` at most.
 pub fn law_strays_draw_nothing()
-    ensures { (w : Handing) (most : ℕ) (p : Keeping) (given : Given) (before later : List (List ℕ)) (packet : List ℕ) →
+    ensures nothing { (w : Handing) (most : ℕ) (p : Keeping) (given : Given) (before later : List (List ℕ)) (packet : List ℕ) →
         given.packets ≡ before ++ packet ∷ later → length given.packets ≤ 64 → length (before ++ later) ≤ 64 →
         is_on_flight (fold sender_on_packet p before).core packet ≡ false →
         ((sender_turn w most p given).core ≡ (sender_turn w most p (record given { packets = before ++ later })).core)
         × ((sender_turn w most p given).sent ≡ (sender_turn w most p (record given { packets = before ++ later })).sent)
+        × ((sender_turn w most p given).asked
+        ≡ (sender_turn w most p (record given { packets = before ++ later })).asked) }
+    ensures early { (w : Handing) (most : ℕ) (p : Keeping) (given : Given) (before later : List (List ℕ)) (packet : List ℕ) →
+        given.packets ≡ before ++ packet ∷ later → length given.packets ≤ 64 → length (before ++ later) ≤ 64 →
+        is_of_nothing_more (fold sender_on_packet p before).core packet ≡ true →
+        IsEarly w p (before ++ later) given.heard →
+        ((sender_turn w most p given).sent ≡ (sender_turn w most p (record given { packets = before ++ later })).sent)
         × ((sender_turn w most p given).asked
         ≡ (sender_turn w most p (record given { packets = before ++ later })).asked) }
 {}
@@ -121,7 +131,7 @@ pub fn law_strays_draw_nothing()
 /// ends, if the wall clock rises no faster than the monotonic one.
 pub fn law_sleep_misses_nothing()
     ensures nothing { (w : Handing) (most : ℕ) (p : Keeping) (given : Given) →
-        p.failed ≡ false → p.report ≡ None → given.packets ≡ [] →
+        p.failed ≡ false → p.reports ≡ no_reports → given.packets ≡ [] →
         given.start.since ≤ given.heard.since → Lasts (sender_sleep w p given.start) given.heard.since →
         (is_open w.plan w.hop given.heard.now ≡ p.pace.is_open) ⊎ (is_at_rest p ≡ true) →
         ((sender_turn w most p given).sent ≡ [])
@@ -131,8 +141,9 @@ pub fn law_sleep_misses_nothing()
         IsSoundPlan w.plan → p.failed ≡ false → is_at_rest p ≡ false → Lasts (sender_sleep w p start) heard.since →
         start.now ≤ heard.now → heard.now - start.now ≤ heard.since - start.since →
         is_open w.plan w.hop heard.now ≡ p.pace.is_open }
-    // No turn leaves a Heard to the next one.
-    ensures report { (w : Handing) (most : ℕ) (p : Keeping) (given : Given) → (sender_turn w most p given).core.report ≡ None }
+    // No turn leaves a Heard or a Custody to the next one.
+    ensures reports { (w : Handing) (most : ℕ) (p : Keeping) (given : Given) →
+        (sender_turn w most p given).core.reports ≡ no_reports }
 {}
 
 /// A sending worker between its turns.
@@ -190,6 +201,8 @@ impl<'a> SenderWorker<'a> {
     {
         self.gather(self.sleep(start), buffer, ends);
         let go = ends.between(rt, Worker::Sender(self.hop), Point::Heard);
+        let left = self.contact_left(go.now);
+        self.pacing.left_is(left);
         self.pacing
             .moment(self.plan.is_open(self.hop, go.now), go.since);
         self.list_calls(go, calls);
@@ -241,6 +254,14 @@ impl<'a> SenderWorker<'a> {
             last.since,
             sooner(self.pacing.work_moment(last.since), edge),
         )
+    }
+
+    /// How much is left of its contact while it is open, in microseconds; `None` if it has no end.
+    fn contact_left(&self, now: u64) -> Option<u64>
+        ensures { result ≡ contact_left (sender_worker self.now.plan.now self.now.hop) now }
+    {
+        let change = self.plan.next_change(self.hop, now)?;
+        Some(change.saturating_sub(now))
     }
 
     /// Whether its contact began or ended since its last turn.

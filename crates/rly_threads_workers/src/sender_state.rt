@@ -8,10 +8,11 @@ ghost use Rattle.rly_threads_workers.specs.SenderTurns.{after_out_event, again_n
 ghost use Rattle.rly_threads_workers.specs.SenderTurns.{is_refusal};
 ghost use Rattle.rly_threads_workers.specs.SenderTurns.{picks_after, picks_beside, sender_packets, sent_on, wants_room, work_moment};
 ghost use Rattle.rly_threads_workers.specs.SenderState.{first_sender_state, let_out, lets_out, on_moment};
-ghost use Rattle.rly_threads_workers.specs.SenderState.{action_on, control_on_answer, control_on_named};
+ghost use Rattle.rly_threads_workers.specs.SenderState.{action_on, control_on_answer, control_on_named, control_on_custody};
 ghost use Rattle.rly_threads_workers.specs.SenderState.{control_on_release, control_on_report, or_else, repeat_on};
 ghost use Rattle.rly_threads_workers.specs.SenderState.{rate_after, rate_after_one, send_room, set_back_if};
-ghost use Rattle.rly_threads_workers.specs.SenderState.{report_after, sender_on_hearing, with_custody, with_report};
+ghost use Rattle.rly_threads_workers.specs.SenderState.{no_reports, reports_after, sender_on_hearing, with_custody, with_left};
+ghost use Rattle.rly_threads_workers.specs.SenderState.{with_reports};
 
 use crate::desk::Desk;
 use crate::ends::{Buffer, Ends};
@@ -19,6 +20,12 @@ use rly_core::{Params, Refusal, limits};
 use rly_hop::{Message, OutAction, OutEvent, Sending, longest_message};
 use rly_hop_pacing::{CongestionControl, Numbers, Rate};
 use rly_link::{Link, MAX_PACKET, Turn, Waker};
+
+/// Nothing was received in this turn.
+const NO_REPORTS: Reports = Reports {
+    custody: false,
+    heard: None,
+};
 
 /// Maximum number of calls that a sending worker submits together.
 pub(crate) const MAX_CALLS: u64 = limits::MAX_ROUND;
@@ -36,8 +43,17 @@ pub(crate) struct SenderState {
     pub(crate) pace: CongestionControl,
     /// The token bucket of the hop's rate, if it has one.
     pub(crate) rate: Option<Rate>,
-    /// The Heard received last in this turn, until the turn's time.
-    pub(crate) report: Option<Report>,
+    /// What was received in this turn, until the turn's time.
+    pub(crate) reports: Reports,
+}
+
+/// What a turn received of its flight.
+#[derive(Clone, Copy)]
+pub(crate) struct Reports {
+    /// Whether a Custody came, of the number before the flight or of one in it.
+    pub(crate) custody: bool,
+    /// The Heard that came last.
+    pub(crate) heard: Option<Report>,
 }
 
 /// The number that custody covers, and the bits of a Heard.
@@ -60,11 +76,11 @@ impl SenderState {
             picks: 1,
             pace: CongestionControl::new(resend, params.window, rate.is_some()),
             rate: full(rate, longest_message(params.payload) as u32),
-            report: None,
+            reports: NO_REPORTS,
         }
     }
 
-    /// A message was received: the core gets it, and a Heard on the flight is kept until the turn's time.
+    /// A message was received: the core gets it, and a Heard or a Custody on the flight is kept until the turn's time.
     pub(crate) fn hear(&mut self, message: Message<&[u8]>)
         ensures { self.new ≡ sender_on_hearing self.old (Some (message_bytes message.entry)) }
     {
@@ -73,19 +89,30 @@ impl SenderState {
     }
 
     fn keep_report(&mut self, message: Message<&[u8]>)
-        ensures { self.new ≡ record self.old { report = report_after self.old (message_bytes message.entry) } }
+        ensures { self.new ≡ record self.old { reports = reports_after self.old (message_bytes message.entry) } }
     {
-        if let Message::Heard {
-            from,
-            to,
-            last,
-            bits,
-        } = message
-        {
-            if self.core.reports_flight(from, to, last) {
-                self.report = Some(Report { last, bits });
-            }
+        match message {
+            Message::Heard {
+                from,
+                to,
+                last,
+                bits,
+            } if self.core.reports_flight(from, to, last) => self.reports.heard = Some(Report {
+                last,
+                bits,
+            }),
+            Message::Custody { from, to, last } => self.reports.custody |= self
+                .core
+                .reports_flight(from, to, last),
+            _ => {}
         }
+    }
+
+    /// How much is left of the contact, in microseconds, or that it has no end.
+    pub(crate) fn left_is(&mut self, left: Option<u64>)
+        ensures { self.new ≡ with_left left self.old }
+    {
+        self.pace.left_is(left);
     }
 
     /// Whether nothing waits, as far as it was told, and nothing is in flight.
@@ -111,7 +138,7 @@ impl SenderState {
         let opens = self.pace.contact(is_open);
         self.set_back(opens);
         self.hear_custody(at);
-        self.hear_report(at);
+        self.hear_reports(at);
         self.pace.moment(at);
     }
 
@@ -132,12 +159,13 @@ impl SenderState {
         note_release(&mut self.pace, named, at);
     }
 
-    /// The Heard that was kept.
-    fn hear_report(&mut self, at: u64)
-        ensures { self.new ≡ with_report self.old at }
+    /// The Heard and the Custody that were kept.
+    fn hear_reports(&mut self, at: u64)
+        ensures { self.new ≡ with_reports self.old at }
     {
-        note_report(&mut self.pace, self.report, at);
-        self.report = None;
+        note_report(&mut self.pace, self.reports.heard, at);
+        note_custody(&mut self.pace, self.reports.custody, at);
+        self.reports = NO_REPORTS;
     }
 
     /// How many messages may be sent at a moment.
@@ -221,6 +249,15 @@ fn note_report(pace: &mut CongestionControl, report: Option<Report>, at: u64)
 {
     if let Some(report) = report {
         pace.on_heard(report.last, report.bits, at);
+    }
+}
+
+/// Reports a Custody to the congestion control, if one came.
+fn note_custody(pace: &mut CongestionControl, is_custody: bool, at: u64)
+    ensures { pace.new ≡ control_on_custody pace.old is_custody at }
+{
+    if is_custody {
+        pace.on_custody(at);
     }
 }
 

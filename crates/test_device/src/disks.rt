@@ -36,13 +36,7 @@ fn get<R: Abort, D: Disk>(
 }
 
 // A read at the offset returns these bytes.
-pub(crate) fn expect_read<R: Abort, D: Disk>(
-    rt: &R,
-    alloc: Global,
-    disk: &mut D,
-    place: u64,
-    bytes: &[u8],
-) {
+fn expect_read<R: Abort, D: Disk>(rt: &R, alloc: Global, disk: &mut D, place: u64, bytes: &[u8]) {
     let mut buffer = vec![in alloc; 0; bytes.len()].expect(rt, "memory");
     let outcome = get(rt, disk, place, &mut buffer);
     expect!(*rt; outcome.is_ok() && buffer.as_slice() == bytes, place);
@@ -58,6 +52,6 @@ fn counts<D: Disk>(disk: &D) -> [u64; 4] {
     ]
 }
 
-pub(crate) fn mem_disk<R: Abort>(rt: &R, alloc: Global, bytes: &[u8]) -> MemDisk {
+fn mem_disk<R: Abort>(rt: &R, alloc: Global, bytes: &[u8]) -> MemDisk {
     MemDisk::new(alloc, bytes.to_vec(alloc).expect(rt, "memory"))
 }

@@ -1,7 +1,8 @@
-//! Tests of disks and streams in memory: disks whose calls fail, disks that lose power, groups that
-//! are appended and stopped at each call of the disk, and streams that fail.
+//! Tests of disks and streams in memory: disks whose calls fail, disks that lose power, and streams
+//! that fail; of CoDel's steps and dequeues; and of records, with one allocation that fails, the
+//! largest body of them and the largest checkpoint.
 //!
-//! Expected values were worked out by hand. A failure means that a disk, a group or a stream does
+//! Expected values were worked out by hand. A failure means that a disk, a stream or CoDel does
 //! something that its definition excludes. Tests only; no crate calls it.
 #![tactic(auto)]
 
@@ -19,10 +20,18 @@ macro_rules! expect {
 }
 
 #[cfg(test)]
+mod control_law;
+#[cfg(test)]
+mod dequeues;
+#[cfg(test)]
 mod disks;
 #[cfg(test)]
 mod expect;
 #[cfg(test)]
-mod groups;
+mod growths;
+#[cfg(test)]
+mod large;
+#[cfg(test)]
+mod payloads;
 #[cfg(test)]
 mod streams;

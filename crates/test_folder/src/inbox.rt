@@ -7,7 +7,7 @@ use std::process::Abort;
 
 /// Destination 7 has a route, and a payload has at most four bytes.
 fn rules<R: Abort>(rt: &R, alloc: Global) -> Admission {
-    Admission::new([7].to_vec(alloc).expect(rt, "memory"), 4, None)
+    Admission::new([7].to_vec(alloc).expect(rt, "memory"), false, 4, None)
 }
 
 /// Another program puts a file, durably.

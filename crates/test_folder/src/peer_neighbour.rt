@@ -58,7 +58,7 @@ pub(crate) type Row = (&'static [u8], &'static [&'static [u8]]);
 
 /// The neighbour 9 of station 7, in whose window two Data fit.
 pub(crate) fn neighbour<R: Abort, F: Folder>(rt: &R, alloc: Global, folder: F) -> PeerNeighbour<F> {
-    let rules = Admission::new([12].to_vec(alloc).expect(rt, "memory"), 4, None);
+    let rules = Admission::new([12].to_vec(alloc).expect(rt, "memory"), false, 4, None);
     PeerNeighbour::new(alloc, StationId(9), StationId(7), rules, 2, 0, 12, folder)
 }
 

@@ -29,7 +29,12 @@ const STRAY: &[u8] = b"R";
 
 /// Destination 12 has a route, and a payload has at most four bytes.
 fn rules<R: Abort>(rt: &R, alloc: Global, destination: Option<u16>) -> Admission {
-    Admission::new([12].to_vec(alloc).expect(rt, "memory"), 4, destination)
+    Admission::new(
+        [12].to_vec(alloc).expect(rt, "memory"),
+        false,
+        4,
+        destination,
+    )
 }
 
 /// The neighbour 9 of station 7, in whose window two Data fit, with this destination and limit of all files.
@@ -128,6 +133,24 @@ fn a_file_is_judged_with_its_destination(rt: HostRuntime) {
     for (destination, file, area) in &REASONS {
         let rules = rules(&rt, rt.alloc(), *destination);
         expect!(rt; rules.reason(file) == *area, number);
+        number = number.saturating_add(1);
+    }
+}
+
+/// The same at a station that takes the rest: only what is too long goes aside.
+#[test]
+fn a_station_with_a_rest_takes_each_destination(rt: HostRuntime) {
+    let mut number = 0;
+    for (destination, file, area) in &REASONS {
+        let routes = [12].to_vec(rt.alloc()).expect(&rt, "memory");
+        let rules = Admission::new(routes, true, 4, *destination);
+        let length = file.len() + if destination.is_some() { 2 } else { 0 };
+        let wanted = if length > 4 {
+            Some(Area::TooLong)
+        } else {
+            None
+        };
+        expect!(rt; rules.reason(file) == wanted, number);
         number = number.saturating_add(1);
     }
 }

@@ -1,7 +1,6 @@
 //! Comparison of a journal with the plain state machine: the same steps, and the same replies.
-use crate::device::DEVICE_E;
-use crate::script::{HOP, PEER, Step, ask_all, is_fetched};
-use rly_core::Refusal;
+use crate::script::{HOP, Many, PEER, Step, ask_all, is_fetched, steps_of};
+use rly_core::{Params, Refusal};
 use rly_disk::Disk;
 use rly_journal::Journal;
 use rly_machine::{Answer, HopStatus, Machine, Payload, Reply};
@@ -33,10 +32,16 @@ pub(crate) fn make_all(
 }
 
 /// Returns a new plain machine after the steps of these rounds.
-pub(crate) fn machine_of(rt: &impl Abort, alloc: Global, rounds: &[&[Step]]) -> Machine<Payload> {
-    let mut machine = Machine::new(alloc, DEVICE_E.params).expect(rt, "memory");
-    for steps in rounds {
-        make_all(rt, alloc, &mut machine, steps);
+pub(crate) fn machine_of(
+    rt: &impl Abort,
+    alloc: Global,
+    params: Params,
+    rounds: &[&[Many]],
+) -> Machine<Payload> {
+    assert!(rt; params.check().is_ok());
+    let mut machine = Machine::new(alloc, params).expect(rt, "memory");
+    for round in rounds {
+        make_all(rt, alloc, &mut machine, &steps_of(rt, alloc, round));
     }
     machine
 }
@@ -172,7 +177,7 @@ pub(crate) fn expect_state<D: Disk>(
     machine: &mut Machine<Payload>,
 ) {
     expect_numbers(rt, alloc, journal, machine);
-    for turn in 0..40 {
+    for turn in 0..100 {
         if machine.item_count() == 0 {
             return;
         }

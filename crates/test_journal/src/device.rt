@@ -1,4 +1,4 @@
-//! Device E, a small device of two segments, and its bytes.
+//! Device E, a small device of two segments, one of three, and their bytes.
 use rly_core::{Geometry, Params};
 use rly_disk::{Disk, MemDisk};
 use rly_journal::Journal;
@@ -26,6 +26,20 @@ pub(crate) const DEVICE_E: Geometry = Geometry {
 /// Its size in bytes.
 pub(crate) const SIZE: usize = 165_880;
 
+/// One hop, one peer, a window of 64, 64 items and 76,800 bytes, on three segments of the minimum length.
+pub(crate) const THREE: Geometry = Geometry {
+    params: Params {
+        hops: 1,
+        peers: 1,
+        window: 64,
+        items: 64,
+        bytes: 76_800,
+        ..Params::DEFAULT
+    },
+    segments: 3,
+    length: 118_508,
+};
+
 /// Makes a disk of zeros of that size.
 pub(crate) fn zeroed(rt: &impl Abort, alloc: Global) -> MemDisk {
     MemDisk::new(alloc, vec![in alloc; 0u8; SIZE].expect(rt, "memory"))
@@ -36,10 +50,14 @@ pub(crate) fn expect_format<D: Disk>(rt: &impl Abort, alloc: Global, disk: &mut 
     expect!(rt; format(alloc, disk, &DEVICE_E) == Ok(()));
 }
 
-/// Makes device E, formatted on zeros. The disk has recorded nothing, so that each of its lists has yet to grow.
-pub(crate) fn device_e(rt: &impl Abort, alloc: Global) -> MemDisk {
-    let mut disk = zeroed(rt, alloc);
-    expect_format(rt, alloc, &mut disk);
+/// Makes a new device of a geometry, formatted on zeros. The disk has recorded nothing, so that each of its lists has
+/// yet to grow.
+pub(crate) fn new_device(rt: &impl Abort, alloc: Global, geometry: &Geometry) -> MemDisk {
+    assert!(rt; geometry.segments <= 3 && geometry.length <= 118_508);
+    let size = 64 + geometry.segments * geometry.length;
+    let bytes = vec![in alloc; 0u8; size as usize].expect(rt, "memory");
+    let mut disk = MemDisk::new(alloc, bytes);
+    expect!(rt; format(alloc, &mut disk, geometry) == Ok(()));
     MemDisk::new(alloc, bytes_of(rt, alloc, &mut disk))
 }
 

@@ -3,32 +3,33 @@
 //! less. If no allocation failed, no reply reports one. A call that failed succeeds when it is
 //! retried.
 use crate::comparison::{expect_state, is_same, machine_of, make_all, numbers_of, reply_of};
-use crate::device::{DEVICE_E, are, bytes_of, device_e, expect_format, opened, zeroed};
+use crate::device::{DEVICE_E, THREE, are, bytes_of, expect_format, new_device, opened, zeroed};
 use crate::rounds::{CRASHES, Round, expect_rounds, left, prepared};
-use crate::script::{HOP, Step};
+use crate::script::{HOP, Many, Step, steps_of};
 use rly_core::Refusal;
 use rly_disk::{Disk, FaultDisk, MemDisk, Torn};
-use rly_journal::{Journal, OpenFault};
+use rly_journal::{Group, Journal, OpenFault};
 use rly_machine::{Machine, Payload, Reply};
 use rly_segment::{FormatFault, format};
-use rly_segment_checkpoint::{DecodeFault, HeadForm, read_checkpoint, write_checkpoint};
+use rly_segment_checkpoint::{
+    DecodeFault, HeadForm, checkpoint_len, read_checkpoint, write_checkpoint,
+};
 use std::alloc::Global;
 use std::process::Abort;
 use test_support::{before, was_refused};
 
 /// The state before the round: three datagrams were taken, the last of them with a limit, two of them picked, and one
 /// of these released. One round asks for all, so no segment is due.
-const FRONT: [Step; 6] = [
-    Step::Take(1, 0, 0, 1_200),
-    Step::Take(2, 100, 0, 1_200),
-    Step::Take(3, 200, 250, 1_200),
-    Step::Pick(300),
-    Step::Pick(300),
-    Step::Release(1),
+const FRONT: [Many; 5] = [
+    (Step::Take(1, 0, 0, 1_200), 1),
+    (Step::Take(2, 100, 0, 1_200), 1),
+    (Step::Take(3, 200, 250, 1_200), 1),
+    (Step::Pick(300), 2),
+    (Step::Release(1), 1),
 ];
 
 /// It takes a datagram that fills the segment: the offset is above 4,628.
-const FILLING: [Step; 1] = [Step::Take(4, 300, 0, 1_200)];
+const FILLING: [Many; 1] = [(Step::Take(4, 300, 0, 1_200), 1)];
 
 /// A round of every kind of request, some of which allocate nothing. Its first Pick finds the one with a limit expired.
 const ROUND: [Step; 9] = [
@@ -45,6 +46,7 @@ const ROUND: [Step; 9] = [
 
 /// The round if no segment is due.
 const PLAIN: Round<'static> = Round {
+    geometry: &DEVICE_E,
     front: &[&FRONT],
     steps: &ROUND,
     wants: &[0, 2, 4],
@@ -58,6 +60,33 @@ const DUE: Round<'static> = Round {
     wants: &[2, 4],
     is_due: true,
     ..PLAIN
+};
+
+/// The rounds of two worked cycles (`tests/test_segments.py`), and the takes of the third.
+const CYCLES: [&[Many]; 8] = [
+    &[(Step::Take(1, 0, 0, 1_200), 32)],
+    &[(Step::Pick(0), 32)],
+    &[(Step::Fetch(1), 32)],
+    &[(Step::Take(33, 0, 0, 1_200), 32)],
+    &[(Step::Pick(0), 32)],
+    &[(Step::Fetch(1), 64)],
+    &[(Step::Release(32), 1)],
+    &[(Step::Take(65, 0, 0, 1_200), 32)],
+];
+
+/// A round before which the third segment is opened: the payloads of 32 datagrams are moved into its head.
+const MOVING: Round<'static> = Round {
+    geometry: &THREE,
+    front: &CYCLES,
+    steps: &[
+        Step::Release(33),
+        Step::Take(97, 0, 0, 1_200),
+        Step::Pick(0),
+        Step::Fetch(65),
+    ],
+    wants: &[1, 2, 3],
+    is_due: true,
+    fails: 0,
 };
 
 /// Returns true iff the refusal of a format is one for want of memory: before any call, or by a call of the disk in
@@ -82,7 +111,7 @@ fn expect_tried(rt: &impl Abort, alloc: Global, disk: &mut MemDisk) {
 
 /// The disk then reads as a formatted device.
 fn expect_formatting(rt: &impl Abort, alloc: Global) {
-    let wanted = bytes_of(rt, alloc, &mut device_e(rt, alloc));
+    let wanted = bytes_of(rt, alloc, &mut new_device(rt, alloc, &DEVICE_E));
     let mut disk = zeroed(rt, alloc);
     expect_tried(rt, alloc, &mut disk);
     expect!(rt; bytes_of(rt, alloc, &mut disk).as_slice() == wanted.as_slice());
@@ -132,7 +161,8 @@ fn expect_opening(
 /// The same for each crash.
 fn expect_openings(rt: &impl Abort, alloc: Global) {
     for crash in &CRASHES {
-        expect_opening(rt, alloc, &mut machine_of(rt, alloc, DUE.front), *crash);
+        let mut machine = machine_of(rt, alloc, DEVICE_E.params, DUE.front);
+        expect_opening(rt, alloc, &mut machine, *crash);
     }
 }
 
@@ -151,6 +181,19 @@ fn a_round_that_opens_a_segment(rt: HostRuntime) {
     expect_rounds(&rt, rt.alloc(), &DUE);
 }
 
+#[test]
+fn a_round_that_opens_one_of_three_segments(rt: HostRuntime) {
+    expect_rounds(&rt, rt.alloc(), &MOVING);
+}
+
+/// A group for payloads of 8,192 bytes, whose frame is reserved.
+#[test]
+fn a_new_group(rt: HostRuntime) {
+    before(rt.alloc()).expect(&rt, "memory");
+    let is_made = Group::new(rt.alloc(), 8_192).is_ok();
+    expect!(rt; was_refused(rt.alloc()) != is_made);
+}
+
 /// A payload is fetched, or its allocation failed.
 fn expect_fetched(rt: &impl Abort, alloc: Global, journal: &mut Journal<FaultDisk<MemDisk>>) {
     before(alloc).expect(rt, "memory");
@@ -164,7 +207,7 @@ fn expect_fetched(rt: &impl Abort, alloc: Global, journal: &mut Journal<FaultDis
 
 /// The same, and the journal's state after it.
 fn expect_fetch(rt: &impl Abort, alloc: Global) {
-    let mut machine = machine_of(rt, alloc, PLAIN.front);
+    let mut machine = machine_of(rt, alloc, DEVICE_E.params, PLAIN.front);
     let mut journal = prepared(rt, alloc, &PLAIN);
     expect_fetched(rt, alloc, &mut journal);
     expect_state(rt, alloc, &mut journal, &mut machine);
@@ -183,7 +226,7 @@ fn new_machine(rt: &impl Abort, alloc: Global) -> Machine<Payload> {
     expect!(rt; refused || told.is_ok());
     match told {
         Ok(machine) => machine,
-        Err(_) => machine_of(rt, alloc, &[]),
+        Err(_) => machine_of(rt, alloc, DEVICE_E.params, &[]),
     }
 }
 
@@ -229,13 +272,13 @@ fn expect_steps(
 fn expect_machine(
     rt: &impl Abort,
     alloc: Global,
-    front: &[Step],
+    front: &[Many],
     steps: &[Step],
     gone: (u64, u64),
 ) {
     let mut machine = new_machine(rt, alloc);
-    make_all(rt, alloc, &mut machine, front);
-    let mut same = machine_of(rt, alloc, &[front]);
+    make_all(rt, alloc, &mut machine, &steps_of(rt, alloc, front));
+    let mut same = machine_of(rt, alloc, DEVICE_E.params, &[front]);
     expect_steps(rt, alloc, (&mut machine, &mut same), steps, gone);
 }
 
@@ -243,12 +286,12 @@ fn expect_machine(
 /// expired, and the third is dropped: the Pick's memory has a list for each.
 fn expect_machines(rt: &impl Abort, alloc: Global) {
     let armed = [
-        Step::Take(1, 0, 0, 1_200),
-        Step::Take(2, 100, 20_000, 100),
-        Step::Take(3, 200, 0, 1_100),
-        Step::Take(4, 200, 0, 1_000),
-        Step::Take(5, 200, 0, 600),
-        Step::Pick(10_000),
+        (Step::Take(1, 0, 0, 1_200), 1),
+        (Step::Take(2, 100, 20_000, 100), 1),
+        (Step::Take(3, 200, 0, 1_100), 1),
+        (Step::Take(4, 200, 0, 1_000), 1),
+        (Step::Take(5, 200, 0, 600), 1),
+        (Step::Pick(10_000), 1),
     ];
     expect_machine(rt, alloc, &armed, &[Step::Pick(120_000)], (1, 1));
     expect_machine(rt, alloc, &FRONT, &ROUND, (1, 0));
@@ -270,6 +313,7 @@ fn written(rt: &impl Abort, alloc: Global, machine: &Machine<Payload>) -> Vec<u8
         expect!(rt; out.is_empty());
         write_checkpoint(machine, &mut out).expect(rt, "memory");
     }
+    expect!(rt; out.len() as u64 == checkpoint_len(machine));
     out
 }
 
@@ -299,7 +343,11 @@ fn expect_same(rt: &impl Abort, alloc: Global, machine: &Machine<Payload>) {
 }
 
 fn expect_checkpoint(rt: &impl Abort, alloc: Global) {
-    expect_same(rt, alloc, &machine_of(rt, alloc, PLAIN.front));
+    expect_same(
+        rt,
+        alloc,
+        &machine_of(rt, alloc, DEVICE_E.params, PLAIN.front),
+    );
 }
 
 #[test]

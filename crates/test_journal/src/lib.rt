@@ -1,6 +1,6 @@
 //! Tests of several crates together: the device calls of a format, a round and an opening, call by
-//! call; rounds in which the device fails; and a journal in scarce memory. Devices are in memory,
-//! with two segments.
+//! call; a format that stops; rounds in which the device fails; and a journal in scarce memory.
+//! Devices are in memory, with two segments and with three.
 //!
 //! Expected values were worked out by hand from docs/, or come from the plain state machine. A
 //! failure means that crates disagree on a call or a state. Tests only; no crate calls it.
@@ -24,6 +24,8 @@ mod comparison;
 mod device;
 #[cfg(test)]
 mod expect;
+#[cfg(test)]
+mod formats;
 #[cfg(test)]
 mod growths;
 #[cfg(test)]

@@ -1,11 +1,11 @@
-//! Rounds on device E, compared with the plain machine: the replies, and the device after them.
+//! Rounds on devices, compared with the plain machine: the replies, and the device after them.
 use crate::comparison::{
     are_refused, expect_answer, expect_broken, expect_numbers, expect_state, is_refused,
     machine_of, make_all,
 };
-use crate::device::{SIZE, device_e, opened};
-use crate::script::{Act, Step, ask_all, calls_of, make, round};
-use rly_core::Refusal;
+use crate::device::{DEVICE_E, new_device, opened};
+use crate::script::{Many, Step, ask_all, calls_of, round, steps_of};
+use rly_core::{Geometry, Refusal};
 use rly_disk::{After, Disk, FaultDisk, MemDisk, Torn};
 use rly_journal::Journal;
 use rly_machine::{Answer, Machine, Payload};
@@ -31,11 +31,12 @@ pub(crate) fn left(disk: FaultDisk<MemDisk>, crash: Option<Torn>) -> MemDisk {
     }
 }
 
-/// A round of a journal on device E.
+/// A round of a journal.
 #[derive(Clone, Copy)]
 pub(crate) struct Round<'a> {
+    pub(crate) geometry: &'a Geometry,
     /// The rounds before it.
-    pub(crate) front: &'a [&'a [Step]],
+    pub(crate) front: &'a [&'a [Many]],
     pub(crate) steps: &'a [Step],
     /// The indexes of the steps that may fail for want of memory: accepted ones with bytes or with ids to list, and a
     /// Fetch of bytes.
@@ -48,10 +49,11 @@ pub(crate) struct Round<'a> {
 
 /// Returns a journal after the rounds before it.
 pub(crate) fn prepared(rt: &impl Abort, alloc: Global, row: &Round) -> Journal<FaultDisk<MemDisk>> {
-    let disk = FaultDisk::new(device_e(rt, alloc), row.fails, 0, After::GoesOn);
+    let disk = new_device(rt, alloc, row.geometry);
+    let disk = FaultDisk::new(disk, row.fails, 0, After::GoesOn);
     let mut journal = opened(rt, alloc, disk);
-    for steps in row.front {
-        let _ = ask_all(rt, alloc, &mut journal, steps);
+    for round in row.front {
+        let _ = ask_all(rt, alloc, &mut journal, &steps_of(rt, alloc, round));
     }
     journal
 }
@@ -170,7 +172,7 @@ pub(crate) fn expect_rounds(rt: &impl Abort, alloc: Global, row: &Round) {
         expect_left(
             rt,
             alloc,
-            &mut machine_of(rt, alloc, row.front),
+            &mut machine_of(rt, alloc, row.geometry.params, row.front),
             row,
             *crash,
         );
@@ -180,6 +182,7 @@ pub(crate) fn expect_rounds(rt: &impl Abort, alloc: Global, row: &Round) {
 /// The first round of a new device, in which a datagram comes twice. An opening makes 7 calls; the round writes, syncs,
 /// writes, and then its second sync fails.
 const TWICE: Round<'static> = Round {
+    geometry: &DEVICE_E,
     front: &[],
     steps: &[Step::Take(1, 0, 0, 1), Step::Take(1, 0, 0, 1)],
     wants: &[],
@@ -205,35 +208,4 @@ fn expect_failed_syncs(rt: &impl Abort, alloc: Global) {
 #[test]
 fn rounds_whose_second_sync_fails(rt: HostRuntime) {
     expect_failed_syncs(&rt, rt.alloc());
-}
-
-/// Makes device E two commands before the last of a spool's life: its first head has that many accepted commands, and
-/// the greatest generation possible with them.
-fn aged(rt: &impl Abort, alloc: Global) -> MemDisk {
-    let mut disk = device_e(rt, alloc);
-    assert!(rt; disk.size() == SIZE as u64);
-    expect!(rt; disk.write_at(65, &281_474_976_710_654u64.to_be_bytes()).is_ok());
-    expect!(rt; disk.write_at(77, &281_474_976_710_653u64.to_be_bytes()).is_ok());
-    disk
-}
-
-/// A datagram is taken and picked, and the others are refused or replied to. The positions are those of the last
-/// commands.
-fn expect_last(rt: &impl Abort, alloc: Global) {
-    let steps = [
-        Step::Take(1, 0, 0, 1),
-        Step::Pick(0),
-        Step::Release(1),
-        Step::Fetch(1),
-        Step::Show,
-    ];
-    let mut positions = [281_474_976_710_655; 5];
-    positions[0] = 281_474_976_710_654;
-    let mut journal = opened(rt, alloc, aged(rt, alloc));
-    make(rt, alloc, &mut journal, Act::Round(&steps, &positions));
-}
-
-#[test]
-fn the_last_commands(rt: HostRuntime) {
-    expect_last(&rt, rt.alloc());
 }

@@ -47,10 +47,35 @@ impl Step {
             Step::Show => Ask::Query(Query::Show { hop: HOP }),
         }
     }
+
+    /// Returns the same with a number higher by `more`.
+    fn after(self, more: u8) -> Step {
+        match self {
+            Step::Take(number, stamp, limit, length) => {
+                Step::Take(number.saturating_add(more), stamp, limit, length)
+            }
+            Step::Fetch(number) => Step::Fetch(number.saturating_add(u64::from(more))),
+            _ => self,
+        }
+    }
+}
+
+/// A step, as often as this, each with the next number.
+pub(crate) type Many = (Step, u8);
+
+/// Returns the steps of a round.
+pub(crate) fn steps_of(rt: &impl Abort, alloc: Global, round: &[Many]) -> Vec<Step> {
+    let mut steps = Vec::new(alloc);
+    for (step, count) in round {
+        for index in 0..*count {
+            steps.push(step.after(index)).expect(rt, "memory");
+        }
+    }
+    steps
 }
 
 /// The seat of the requests.
-const SEAT: SeatId = SeatId(3);
+const SEAT: SeatId = SeatId(255);
 
 /// Returns a call for each step, numbered in order.
 pub(crate) fn calls_of(rt: &impl Abort, alloc: Global, steps: &[Step]) -> Vec<Call> {

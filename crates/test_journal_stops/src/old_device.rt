@@ -31,7 +31,7 @@ use std::alloc::Global;
 use std::process::Abort;
 
 /// Its size in bytes.
-pub(crate) const SIZE: usize = 355_588;
+const SIZE: usize = 355_588;
 
 /// Their SHA-256.
 const DIGEST: &[u8] = b"d3be1477eadb5de2a7311051167891a84eef35d5642efcae0f4f44d0faceda95";

@@ -1,6 +1,6 @@
 //! Two relays that run.
 
-mod copies;
+mod growths;
 mod lengths;
 mod limits;
 mod pairs;

@@ -184,19 +184,66 @@ fn a_folder_has_its_numbers(rt: HostRuntime) {
     );
 }
 
-fn routes(rt: &impl Abort, plan: &Plan) {
-    expect!(rt; plan.hop_for(12) == Some(HopId(1)));
-    for unknown in &[0, 1, 11, 13, 65_535] {
-        expect!(rt; plan.hop_for(*unknown) == None);
+/// A plan with a route to 12 by hop 1 and to 3,085 by hop 2, and the rest by hop 2, whose station is a peer's too.
+const WITH_REST: &str = "station = 7
+peer = [
+  { id = 1, station = 3, listen = '', remote = '' },
+  { id = 2, station = 10, listen = '', remote = '' },
+]
+hop = [
+  { id = 1, station = 9, listen = '', remote = '', contacts = [] },
+  { id = 2, station = 10, listen = '', remote = '', contacts = [] },
+]
+route = [
+  { destination = 12, hop = 1 },
+  { destination = 'rest', hop = 2 },
+  { destination = 3_085, hop = 2 },
+]
+";
+
+/// The payloads of these tests: for 12, for 3,085, for others, and two that name no destination.
+const PAYLOADS: [&[u8]; 7] = [
+    b"\x00\x0c",
+    b"\x0c\x0d\xff",
+    b"\x00\x0d",
+    b"\x0c\x00A",
+    b"\x00\x00",
+    b"\x0c",
+    b"",
+];
+
+/// The station of a peer, and the hop of each of its payloads: 0 for none.
+const HOPS_FOR: [(u16, [u16; 7]); 3] = [
+    (3, [1, 2, 2, 2, 2, 2, 2]),
+    (10, [1, 2, 0, 0, 0, 0, 0]),
+    (0, [1, 2, 2, 2, 2, 2, 2]),
+];
+
+fn expect_hops(rt: &impl Abort, plan: &Plan, station: u16, hops: &[u16]) {
+    for (payload, hop) in PAYLOADS.iter().zip(hops) {
+        let found = plan.hop_for(station, payload).unwrap_or(HopId(0));
+        expect!(rt; found == HopId(*hop), station as u64);
     }
 }
 
 #[test]
-fn a_destination_has_the_hop_of_its_route(rt: HostRuntime) {
-    routes(
-        &rt,
-        &Plan::from_toml(rt.alloc(), WHOLE).expect(&rt, "no fault"),
-    );
+fn a_payload_has_the_hop_of_its_route(rt: HostRuntime) {
+    let plan = Plan::from_toml(rt.alloc(), WHOLE).expect(&rt, "no fault");
+    expect!(&rt; plan.rest() == None);
+    for station in &[0, 3, 9, 65_535] {
+        expect_hops(&rt, &plan, *station, &[1, 0, 0, 0, 0, 0, 0]);
+    }
+}
+
+#[test]
+fn the_rest_has_its_hop_unless_it_leads_back(rt: HostRuntime) {
+    let plan = Plan::from_toml(rt.alloc(), WITH_REST).expect(&rt, "no fault");
+    expect!(&rt; plan.rest() == Some(HopId(2)));
+    expect!(&rt; plan.rest_for(3) == Some(HopId(2)));
+    expect!(&rt; plan.rest_for(10) == None);
+    for (station, hops) in &HOPS_FOR {
+        expect_hops(&rt, &plan, *station, hops);
+    }
 }
 
 /// Ids that are no hop of the whole plan.

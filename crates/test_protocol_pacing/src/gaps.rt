@@ -291,16 +291,16 @@ const TEN_MINUTES: Run<'static> = Run {
 /// and both. The round trip is 200 ms.
 ///
 /// A window of three is out in turn 5. The Heard of turn 7 yields a first sample, and with it a wait of 600 ms, which
-/// doubles up to a minute: seven Timeouts within 76.2 s, and one in each minute after that. With the first sending
-/// that is 16.
+/// doubles up to a sixteenth of the 923.8 s that are left of the contact then: seven Timeouts within 76.2 s, and one in each
+/// 57.8 s after that. With the first sending that is 17.
 ///
 /// A window of 64 with a rate takes longer to go out: 2.6 s at most. While it does, a number that wasn't heard before
 /// may end the doubling, and no wait is shorter than 300 ms: eight Timeouts. After that waits that double from 300 ms
-/// on are eight within 76.5 s, and then one in each minute.
+/// on are eight within 76.5 s, and then one in each 57.8 s.
 const FULL: [(&str, u64, u64, u64); 3] = [
-    (PLAN, 3, 16, 16),
-    (RATED_PLAN, 3, 16, 16),
-    (RATED_PLAN, 64, 16, 25),
+    (PLAN, 3, 17, 17),
+    (RATED_PLAN, 3, 17, 17),
+    (RATED_PLAN, 64, 17, 26),
 ];
 
 /// How often the first number was sent, if each other one was sent once, in order, up to the last.

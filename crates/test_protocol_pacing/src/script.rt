@@ -16,6 +16,10 @@ pub(crate) enum Act<'a> {
     Custody(u64),
     /// A Heard: custody of the numbers up to this one, and of those after it these were heard.
     Hears(u64, &'a [u64]),
+    /// A Custody of the number before the flight or of one in it, after `Custody` of it.
+    Answer,
+    /// So many milliseconds are left of the contact.
+    Left(u64),
     /// In a turn these numbers go out again.
     Again(&'a [u64]),
     /// At most so many of them go out again: these.
@@ -30,7 +34,9 @@ pub(crate) enum Act<'a> {
     Next(bool, u64),
 }
 
-use Act::{Again, Contact, Custody, Few, Hears, Next, Room, Sends, Spare, Unsent, WindowIs};
+use Act::{
+    Again, Answer, Contact, Custody, Few, Hears, Left, Next, Room, Sends, Spare, Unsent, WindowIs,
+};
 
 /// A hop: its `resend` in milliseconds, its window, and whether it has a rate.
 pub(crate) type Hop = (u32, u64, bool);
@@ -82,6 +88,8 @@ pub(crate) fn is_done(pace: &mut CongestionControl, at: u64, act: Act<'_>) -> bo
         Sends(numbers) => send(pace, numbers, at),
         Custody(last) => pace.on_covered(last, at),
         Hears(last, numbers) => pace.on_heard(last, bits_of(last, numbers), at),
+        Answer => pace.on_custody(at),
+        Left(millis) => pace.left_is(Some(millis.saturating_mul(1_000))),
         Again(numbers) => return go_again(pace, 64, at, numbers),
         Few(most, numbers) => return go_again(pace, most, at, numbers),
         Spare(number) => return pace.spare(at).unwrap_or(0) == number,

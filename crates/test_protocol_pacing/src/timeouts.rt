@@ -1,6 +1,8 @@
 //! When a Timeout comes, and what ends the doubling of its wait. Moments are in microseconds. The numbers were computed by hand from
 //! the rules of `rly_hop_pacing`.
-use crate::script::Act::{self, Again, Contact, Custody, Hears, Room, Sends, Spare, Unsent};
+use crate::script::Act::{
+    self, Again, Answer, Contact, Custody, Hears, Left, Room, Sends, Spare, Unsent,
+};
 use crate::script::{PLAIN, Script, expect_done, follow_all, go_again, opened};
 use rly_hop_pacing::CongestionControl;
 use std::process::Abort;
@@ -83,7 +85,7 @@ fn doubling(rt: HostRuntime) {
     expect_doubled(&rt, &DOUBLED);
 }
 
-const AFTER_TIMEOUTS: [Script<'static>; 9] = [
+const AFTER_TIMEOUTS: [Script<'static>; 15] = [
     // The repeat was covered a second after it was sent. A sample of it would make the wait 3 s.
     (
         "a number that was sent again yields no sample, and its custody leaves the wait doubled",
@@ -248,6 +250,122 @@ const AFTER_TIMEOUTS: [Script<'static>; 9] = [
             (10_400_000, Hears(0, &[3])),
             (10_424_999, Again(&[])),
             (10_425_000, Again(&[1, 2])),
+        ],
+    ),
+    // The wait is 1,200 ms, doubled twice by 4 s. It has passed since 5.2 s where an answer comes at 7 s, but not since then.
+    (
+        "an answer ends the doubling, and draws the first number once the wait has passed since it was sent",
+        PLAIN,
+        &[
+            (0, Sends(&[1])),
+            (400_000, Custody(1)),
+            (400_000, Sends(&[2])),
+            (1_600_000, Again(&[2])),
+            (1_600_000, Sends(&[2])),
+            (4_000_000, Again(&[2])),
+            (4_000_000, Sends(&[2])),
+            (5_000_000, Answer),
+            (5_199_999, Again(&[])),
+            (5_200_000, Again(&[2])),
+            (5_200_000, Sends(&[2])),
+            (6_399_999, Answer),
+            (6_399_999, Again(&[])),
+            (6_400_000, Again(&[2])),
+            (6_400_000, Sends(&[2])),
+            (8_000_000, Answer),
+            (8_000_000, Again(&[2])),
+            (8_000_000, Sends(&[2])),
+            (8_000_001, Answer),
+            (8_000_001, Again(&[])),
+            (9_199_999, Answer),
+            (9_199_999, Again(&[])),
+        ],
+    ),
+    (
+        "an answer in silence ends the doubling before a round trip was measured",
+        PLAIN,
+        &[
+            (0, Sends(&[1])),
+            (1_000_000, Again(&[1])),
+            (1_000_000, Sends(&[1])),
+            (3_000_000, Again(&[1])),
+            (3_000_000, Sends(&[1])),
+            (3_500_000, Answer),
+            (3_999_999, Again(&[])),
+            (4_000_000, Again(&[1])),
+        ],
+    ),
+    // The round trip is 1,400 ms or 400: the answer at 1,500 ms may be that to the first number's copy.
+    (
+        "an answer after news leaves the wait doubled before a round trip was measured",
+        PLAIN,
+        &[
+            (0, Sends(&[1])),
+            (1_000_000, Again(&[1])),
+            (1_000_000, Sends(&[1])),
+            (1_400_000, Custody(1)),
+            (1_400_000, Sends(&[2])),
+            (1_500_000, Answer),
+            (3_399_999, Again(&[])),
+            (3_400_000, Again(&[2])),
+        ],
+    ),
+    // As in `SILENCE`, the wait is 1,000 ms.
+    (
+        "a Timeout after an answer isn't one without: the first number alone goes out again, though the window is full",
+        (160, 3, false),
+        &[
+            (0, Sends(&[1])),
+            (400_000, Custody(1)),
+            (400_000, Sends(&[2, 3, 4])),
+            (800_000, Hears(1, &[4])),
+            (900_000, Sends(&[2, 3])),
+            (1_900_000, Again(&[2])),
+            (1_900_000, Sends(&[2])),
+            (3_000_000, Answer),
+            (3_000_000, Again(&[2])),
+            (3_000_000, Sends(&[2])),
+            (4_000_000, Again(&[2])),
+            (4_000_000, Sends(&[2])),
+            (6_000_000, Again(&[2, 3, 4])),
+        ],
+    ),
+    (
+        "in a contact of which 320 s are left a wait doubles up to 20 s",
+        PLAIN,
+        &[
+            (0, Left(320_000)),
+            (0, Sends(&[1])),
+            (1_000_000, Again(&[1])),
+            (1_000_000, Sends(&[1])),
+            (3_000_000, Again(&[1])),
+            (3_000_000, Sends(&[1])),
+            (7_000_000, Again(&[1])),
+            (7_000_000, Sends(&[1])),
+            (15_000_000, Again(&[1])),
+            (15_000_000, Sends(&[1])),
+            (31_000_000, Again(&[1])),
+            (31_000_000, Sends(&[1])),
+            (50_999_999, Again(&[])),
+            (51_000_000, Again(&[1])),
+        ],
+    ),
+    (
+        "and 10 s however little is left",
+        PLAIN,
+        &[
+            (0, Left(1_000)),
+            (0, Sends(&[1])),
+            (1_000_000, Again(&[1])),
+            (1_000_000, Sends(&[1])),
+            (3_000_000, Again(&[1])),
+            (3_000_000, Sends(&[1])),
+            (7_000_000, Again(&[1])),
+            (7_000_000, Sends(&[1])),
+            (15_000_000, Again(&[1])),
+            (15_000_000, Sends(&[1])),
+            (24_999_999, Again(&[])),
+            (25_000_000, Again(&[1])),
         ],
     ),
 ];

@@ -1,17 +1,11 @@
-//! The largest submission queue, and a window of the longest datagrams: a limit in the code itself
-//! would show here, as a failed allocation.
-use crate::growths::seats::expect_line;
-use crate::growths::workers::{Form, MemEnds, RECEIVING, Run, SENDING, ends_of, make_run};
+//! A window of the longest datagrams: a limit in the code itself would show here, as a failed
+//! allocation.
+use crate::growths::{Form, MemEnds, RECEIVING, Run, SENDING, ends_of, make_run};
 use rly_core::Params;
 use rly_machine::Machine;
 use std::alloc::Global;
 use std::process::Abort;
 use std::sync::Wait;
-
-#[test]
-fn the_greatest_line(rt: HostRuntime) {
-    expect_line(&rt, rt.alloc(), 256, 256);
-}
 
 /// A spool for the longest payloads, with 64 in flight at most.
 const LONG: Params = Params {

@@ -1,8 +1,7 @@
-//! Tests of calls with one allocation that fails (`bench/scarce_memory`): records and bodies,
-//! seats (client handles) and the submission queue, the committer, the workers, and two relays;
-//! and of the largest queue, and a window of the longest datagrams.
+//! Tests of workers with one allocation that fails (`bench/scarce_memory`), and of a window of the
+//! longest datagrams.
 //!
-//! A failure means that a call breaks its contract without memory, or fails with memory. Other
+//! A failure means that a worker breaks its contract without memory, or fails with memory. Other
 //! crates have their own `growths` modules. Tests only; no crate calls it.
 #![tactic(auto)]
 

@@ -8,7 +8,7 @@ use std::alloc::Global;
 use std::process::Abort;
 
 /// Two segments of the minimum length, of which 400 takes of one byte fill no more than the first.
-const DEVICE: Geometry = Geometry {
+pub(super) const DEVICE: Geometry = Geometry {
     params: Params {
         hops: 1,
         bytes: 4_096,
@@ -19,7 +19,7 @@ const DEVICE: Geometry = Geometry {
 };
 
 /// 64 hops and peers, and a window of 64, on two segments with more room than the minimum.
-const WIDE: Geometry = Geometry {
+pub(super) const WIDE: Geometry = Geometry {
     params: Params {
         hops: 64,
         peers: 64,
@@ -31,18 +31,8 @@ const WIDE: Geometry = Geometry {
     length: 400_000,
 };
 
-/// A device that was formatted and not used.
-pub(super) fn device<R: Abort>(rt: &R, alloc: Global) -> MemDisk {
-    formatted(rt, alloc, &DEVICE)
-}
-
-/// A device of 64 hops and peers that was formatted and not used.
-pub(super) fn wide_device<R: Abort>(rt: &R, alloc: Global) -> MemDisk {
-    formatted(rt, alloc, &WIDE)
-}
-
 /// A new device of a geometry: 64 bytes, and its two segments.
-fn formatted<R: Abort>(rt: &R, alloc: Global, geometry: &Geometry) -> MemDisk {
+pub(super) fn device<R: Abort>(rt: &R, alloc: Global, geometry: &Geometry) -> MemDisk {
     let size = geometry.length.saturating_mul(2).saturating_add(64);
     let bytes = Vec::from_elem(alloc, 0u8, size as usize).expect(rt, "memory");
     let mut disk = MemDisk::new(alloc, bytes);
@@ -51,23 +41,26 @@ fn formatted<R: Abort>(rt: &R, alloc: Global, geometry: &Geometry) -> MemDisk {
     disk
 }
 
-/// The journal on a device.
-pub(super) fn journal_on<R: Abort, D: Disk + Drop>(rt: &R, alloc: Global, disk: D) -> Journal<D> {
-    Journal::open(alloc, disk).ok().expect(rt, "a journal")
+/// The journal on a disk, if it opens.
+pub(super) fn opened<D: Disk + Drop>(alloc: Global, disk: D) -> Option<Journal<D>> {
+    Journal::open(alloc, disk).ok()
 }
 
-/// The journal on a device that was formatted and not used.
-pub(super) fn new_journal<R: Abort>(rt: &R, alloc: Global) -> Journal<MemDisk> {
-    journal_on(rt, alloc, device(rt, alloc))
+/// The journal on a new device of a geometry.
+pub(super) fn new_journal<R: Abort>(
+    rt: &R,
+    alloc: Global,
+    geometry: &Geometry,
+) -> Journal<MemDisk> {
+    opened(alloc, device(rt, alloc, geometry)).expect(rt, "a journal")
 }
 
-/// The journal on such a device whose call of this number fails, if it opens.
+/// The journal on a new `DEVICE` whose call of this number fails, and all after it, if it opens.
 pub(super) fn failing<R: Abort>(
     rt: &R,
     alloc: Global,
     fails_at: u64,
-    after: After,
 ) -> Option<Journal<FaultDisk<MemDisk>>> {
-    let disk = FaultDisk::new(device(rt, alloc), fails_at, 0, after);
-    Journal::open(alloc, disk).ok()
+    let disk = device(rt, alloc, &DEVICE);
+    opened(alloc, FaultDisk::new(disk, fails_at, 0, After::Stops))
 }

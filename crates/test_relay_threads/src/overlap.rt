@@ -2,7 +2,7 @@
 
 ghost use Rattle.std.specs.Prelude.{None, false};
 
-use crate::devices::new_journal;
+use crate::devices::{DEVICE, new_journal};
 use crate::links::link_with;
 use crate::relayed::{Left, left_by};
 use rly_core::{HopId, PeerId};
@@ -15,14 +15,14 @@ use std::thread;
 use std::thread::Threads;
 use std::time::{Clock, Duration};
 
-pub(super) const WORKERS: [Worker; 3] = [
+const WORKERS: [Worker; 3] = [
     Worker::Receiver(PeerId(1)),
     Worker::Receiver(PeerId(2)),
     Worker::Sender(HopId(1)),
 ];
 
 /// Data number 1 with payload `000c41` to station 7, from station 3 and from station 4.
-pub(super) const DATA: [&[u8]; 2] = [
+const DATA: [&[u8]; 2] = [
     b"\x52\x4c\x01\x01\x00\x03\x00\x07\x00\x00\x00\x00\x00\x00\x00\x01\x00\x03\x00\x0c\x41",
     b"\x52\x4c\x01\x01\x00\x04\x00\x07\x00\x00\x00\x00\x00\x00\x00\x01\x00\x03\x00\x0c\x41",
 ];
@@ -141,7 +141,7 @@ fn left_of<'a, R: Abort + Threads + Wait + Clock + Sync>(
 ) -> Left {
     let alloc = clock.alloc();
     let posts = posts(rt, clock, held, answered, gave_up);
-    left_by(rt, alloc, new_journal(rt, alloc), posts)
+    left_by(rt, alloc, new_journal(rt, alloc, &DEVICE), posts)
 }
 
 /// Checks that the other two are answered while this worker is held.

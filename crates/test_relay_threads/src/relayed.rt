@@ -2,6 +2,7 @@
 
 use rly_core::PeerId;
 use rly_disk::Disk;
+use rly_flush::NoWatch;
 use rly_journal::Journal;
 use rly_link::{MemLink, MemWaker, Post, Turn};
 use rly_plan::Plan;
@@ -42,11 +43,9 @@ pub(super) struct Left {
     pub(super) broken: bool,
     pub(super) is_cut: bool,
     pub(super) complete: bool,
-    /// The number of its workers, of those that had a thread, of those that were stopped early, and of packets
-    /// sent.
+    /// The number of its workers, of those that had a thread, and of packets sent.
     pub(super) workers: usize,
     pub(super) ran: usize,
-    pub(super) cut: usize,
     pub(super) sent: usize,
     /// The last numbers of the first two peers.
     pub(super) lasts: (Option<u64>, Option<u64>),
@@ -61,14 +60,12 @@ fn left_in<D: Disk, T: Turn>(relayed: &Relayed<D, MemLink, T, MemWaker>) -> Left
         complete: relayed.complete,
         workers: relayed.ended.len(),
         ran: 0,
-        cut: 0,
         sent: 0,
         lasts: (journal.last(PeerId(1)).ok(), journal.last(PeerId(2)).ok()),
     };
     for ended in &relayed.ended {
         if let Some(worker) = ended {
             left.ran = left.ran.saturating_add(1);
-            left.cut = left.cut.saturating_add(usize::from(worker.was_cut));
             left.sent = left
                 .sent
                 .saturating_add(worker.post.link.deliveries().len());
@@ -78,7 +75,7 @@ fn left_in<D: Disk, T: Turn>(relayed: &Relayed<D, MemLink, T, MemWaker>) -> Left
 }
 
 /// The plan of station 7.
-pub(super) fn plan<R: Abort>(rt: &R, alloc: Global) -> Plan {
+fn plan<R: Abort>(rt: &R, alloc: Global) -> Plan {
     Plan::from_toml(alloc, PLAN).ok().expect(rt, "a plan")
 }
 
@@ -94,9 +91,19 @@ fn relayed<R: Abort + Threads + Wait + Clock + Sync, D: Disk + Drop, T: Turn + D
         panic!(rt; "1 to 256 posts");
     }
     let mut bell = MemWaker::new();
-    run_relay(rt, alloc, journal, Duration::ZERO, &plan, posts, &mut bell)
-        .ok()
-        .expect(rt, "a relay")
+    let gather = Duration::ZERO;
+    run_relay(
+        rt,
+        alloc,
+        journal,
+        gather,
+        &plan,
+        posts,
+        &mut bell,
+        &mut NoWatch,
+    )
+    .ok()
+    .expect(rt, "a relay")
 }
 
 /// Runs a relay of these posts to its end, and returns its result and its journal.

@@ -3,11 +3,12 @@
 
 ghost use Rattle.std.specs.Prelude.{None, false};
 
-use crate::devices::{failing, journal_on, new_journal, wide_device};
+use crate::devices::{DEVICE, WIDE, new_journal};
 use crate::links::give;
 use crate::relayed::{left_by, run};
+use crate::rounds::broken_journal;
 use rly_core::PeerId;
-use rly_disk::{After, FaultDisk, MemDisk};
+use rly_disk::MemDisk;
 use rly_journal::Journal;
 use rly_link::{Go, MemLink, MemWaker, Point, Post, Turn, Worker};
 use std::alloc::Global;
@@ -96,7 +97,7 @@ fn journal_of_70<R: Abort + Threads + Wait + Clock + Sync>(
     alloc: Global,
 ) -> Journal<MemDisk> {
     let posts = posts(rt, alloc, 1, (1, 70));
-    let (left, journal) = run(rt, alloc, new_journal(rt, alloc), posts);
+    let (left, journal) = run(rt, alloc, new_journal(rt, alloc, &DEVICE), posts);
     expect!(*rt; left.complete && !left.is_cut);
     expect!(*rt; left.lasts.0 == Some(70));
     expect!(*rt; (left.ran, left.sent) == (1, 2));
@@ -121,12 +122,7 @@ fn a_worker_alone_takes_full_batches(rt: HostRuntime) {
 /// Runs a relay of 256 workers, of which the first receives a datagram.
 fn run_wide<R: Abort + Threads + Wait + Clock + Sync>(rt: &R, alloc: Global) {
     let posts = posts(rt, alloc, 256, (1, 1));
-    let left = left_by(
-        rt,
-        alloc,
-        journal_on(rt, alloc, wide_device(rt, alloc)),
-        posts,
-    );
+    let left = left_by(rt, alloc, new_journal(rt, alloc, &WIDE), posts);
     expect!(*rt; left.complete && !left.is_cut);
     expect!(*rt; left.workers == 256);
     expect!(*rt; left.lasts.0 == Some(1));
@@ -138,26 +134,13 @@ fn as_many_workers_as_a_line_has_seats(rt: HostRuntime) {
     run_wide(&rt, rt.alloc());
 }
 
-/// A journal that broke in the first round of a relay.
-fn broken_journal<R: Abort + Threads + Wait + Clock + Sync>(
+/// Runs a relay over a broken journal. It reports this, and its worker sends nothing.
+fn run_broken<R: Abort + Threads + Wait + Clock + Sync + Copy + Send + 'static>(
     rt: &R,
     alloc: Global,
-) -> Journal<FaultDisk<MemDisk>> {
-    for fails_at in 1..100 {
-        if let Some(journal) = failing(rt, alloc, fails_at, After::Stops) {
-            let (left, journal) = run(rt, alloc, journal, posts(rt, alloc, 1, (1, 1)));
-            if left.broken {
-                return journal;
-            }
-        }
-    }
-    panic!(rt; "no journal broke")
-}
-
-/// Runs a relay over a broken journal. It reports this, and its worker sends nothing.
-fn run_broken<R: Abort + Threads + Wait + Clock + Sync>(rt: &R, alloc: Global) {
+) {
     let posts = posts(rt, alloc, 1, (1, 1));
-    let left = left_by(rt, alloc, broken_journal(rt, alloc), posts);
+    let left = left_by(rt, alloc, broken_journal(*rt, alloc), posts);
     expect!(*rt; left.broken && left.is_cut);
     expect!(*rt; (left.ran, left.sent) == (1, 0));
 }

@@ -1,7 +1,7 @@
 //! A receiving worker.
 
 use crate::script::{ANY, OF_7, RECEIVER, Row, Script, TO_7, expect_each, expect_script};
-use crate::workers::{Packets, Spool};
+use crate::workers::{Packets, REST_LEADS_BACK, Spool, WITH_REST};
 use rly_core::Params;
 use std::alloc::Global;
 use std::process::Abort;
@@ -173,6 +173,39 @@ const WITHOUT_ROUTE: [&[Packets<'static>]; 4] = [
 #[test]
 fn what_has_no_route_is_refused(rt: HostRuntime) {
     expect_each(&rt, rt.alloc(), &[NOT_TAKEN], &WITHOUT_ROUTE);
+}
+
+/// The same where hop 1 is the rest's: it is stored for it.
+const IN_THE_REST: Script<'static> = Script {
+    shows: "a datagram of the rest",
+    plan: WITH_REST,
+    rows: &[(2, [1, 1, 2, 4], [1, 0, 0])],
+    ..RECEIVER
+};
+
+#[test]
+fn what_has_no_route_takes_that_of_the_rest(rt: HostRuntime) {
+    for heard in &WITHOUT_ROUTE {
+        let length = heard[0].1.len() as u64 - 18;
+        let script = Script {
+            heard: *heard,
+            length,
+            ..IN_THE_REST
+        };
+        expect_script(&rt, rt.alloc(), &script);
+    }
+}
+
+/// The same where the rest's hop leads to the station that gives it: it is refused as one without a route.
+const LED_BACK: Script<'static> = Script {
+    shows: "a datagram of the rest that would go back",
+    plan: REST_LEADS_BACK,
+    ..NOT_TAKEN
+};
+
+#[test]
+fn the_rest_never_leads_back(rt: HostRuntime) {
+    expect_each(&rt, rt.alloc(), &[LED_BACK], &WITHOUT_ROUTE);
 }
 
 /// Another station's data, and a packet that is too short for a message.

@@ -1,6 +1,8 @@
 //! Workers whose turns follow a script, and checks of their effects.
 
-use crate::workers::{Counting, Losing, MemEnds, Packets, Spool, are_sent, link, machine, plan};
+use crate::workers::{
+    Counting, Losing, MemEnds, PLAN, Packets, Spool, are_sent, link, machine, plan,
+};
 use rly_core::{HopId, Params, PeerId, Refusal};
 use rly_link::{Link, MemTurn, Worker};
 use rly_machine::{Machine, Payload, Reply};
@@ -57,6 +59,7 @@ pub(super) type Row = (u64, Done, Counts);
 #[derive(Drop)]
 pub(super) struct Script<'a> {
     pub(super) shows: &'a str,
+    pub(super) plan: &'a str,
     pub(super) worker: Worker,
     pub(super) spool: Spool,
     /// The window of a sender.
@@ -102,6 +105,7 @@ pub(super) const ONE: Spool = Spool {
 /// The receiver of peer 1, which receives nothing.
 pub(super) const RECEIVER: Script<'static> = Script {
     shows: "a receiver",
+    plan: PLAN,
     worker: Worker::Receiver(PeerId(1)),
     spool: EMPTY,
     window: 1,
@@ -169,7 +173,7 @@ fn left<R: Abort + Wait>(
             hop: HopId(0),
         },
     };
-    work(rt, alloc, &plan(rt, alloc), script, &mut ends);
+    work(rt, alloc, &plan(rt, alloc, script.plan), script, &mut ends);
     ends
 }
 

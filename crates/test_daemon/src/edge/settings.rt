@@ -39,6 +39,7 @@ const DEFAULTS: [Given; 9] = [
             segments: 4,
             length: None,
             force: false,
+            allocate: false,
         },
     ),
     (
@@ -50,7 +51,11 @@ const DEFAULTS: [Given; 9] = [
     ),
     (
         &["rly", "audit", "spool"],
-        Settings::Audit { file: "spool" },
+        Settings::Audit {
+            file: "spool",
+            made: false,
+            copy: false,
+        },
     ),
     (
         &["rly", "serve", "spool", "plan.toml"],
@@ -69,6 +74,7 @@ const DEFAULTS: [Given; 9] = [
         Settings::Plan {
             plan: "plan.toml",
             at: None,
+            device: None,
         },
     ),
     (
@@ -99,7 +105,7 @@ fn what_is_left_out_is_the_default(rt: HostRuntime) {
 }
 
 /// Options before and after the required arguments, with a blank and with `=`.
-const GIVEN: [Given; 7] = [
+const GIVEN: [Given; 10] = [
     (
         &[
             "rly",
@@ -124,6 +130,7 @@ const GIVEN: [Given; 7] = [
             segments: 3,
             length: Some(4096),
             force: false,
+            allocate: false,
         },
     ),
     (
@@ -134,6 +141,47 @@ const GIVEN: [Given; 7] = [
             segments: 4,
             length: None,
             force: true,
+            allocate: false,
+        },
+    ),
+    (
+        &[
+            "rly",
+            "format",
+            "spool",
+            "--keep-all",
+            "--window=64",
+            "--allocate",
+        ],
+        Settings::Format {
+            file: "spool",
+            params: Params {
+                window: 64,
+                maxpacket: 65_535,
+                target: 3_600_000_000,
+                interval: 3_600_000_000,
+                ..Params::DEFAULT
+            },
+            segments: 4,
+            length: None,
+            force: false,
+            allocate: true,
+        },
+    ),
+    (
+        &["rly", "audit", "--copy", "spool"],
+        Settings::Audit {
+            file: "spool",
+            made: false,
+            copy: true,
+        },
+    ),
+    (
+        &["rly", "audit", "spool", "--made"],
+        Settings::Audit {
+            file: "spool",
+            made: true,
+            copy: false,
         },
     ),
     (
@@ -166,10 +214,18 @@ const GIVEN: [Given; 7] = [
         },
     ),
     (
-        &["rly", "plan", "plan.toml", "--at", "4503599627370495"],
+        &[
+            "rly",
+            "plan",
+            "plan.toml",
+            "--device=spool",
+            "--at",
+            "4503599627370495",
+        ],
         Settings::Plan {
             plan: "plan.toml",
             at: Some(4_503_599_627_370_495),
+            device: Some("spool"),
         },
     ),
     (
@@ -255,6 +311,7 @@ fn expect_format(rt: &(impl Abort + AllocGlobal), text: &str, number: u64) {
         segments: number,
         length: Some(number),
         force: true,
+        allocate: false,
     };
     expect_settings(rt, words.as_slice(), &wanted);
 }

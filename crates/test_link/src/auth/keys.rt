@@ -62,70 +62,27 @@ fn texts_that_are_keys(rt: HostRuntime) {
     expect_keys(&rt);
 }
 
-/// The text is no key.
-fn expect_none<R: Abort>(rt: &R, text: &str, row: u64) {
-    expect!(*rt; Key::read(text.as_bytes()).is_none(), row);
-}
-
-fn expect_no_keys<R: Abort>(rt: &R) {
-    expect_none(rt, "", 0);
-    expect_none(rt, "\n", 1);
-    expect_none(rt, "00", 2);
-    expect_none(
-        rt,
-        "000102030405060708090a0b0c0d0e0f101112131415161718191a1b1c1d1e1\n",
-        3,
-    );
-    expect_none(
-        rt,
-        "000102030405060708090a0b0c0d0e0f101112131415161718191a1b1c1d1e1f0\n",
-        4,
-    );
-    expect_none(
-        rt,
-        "000102030405060708090a0b0c0d0e0f101112131415161718191a1b1c1d1e1g\n",
-        5,
-    );
-    expect_none(
-        rt,
-        "000102030405060708090a0b0c0d0e0f101112131415161718191a1b1c1d1e1f\r\n",
-        6,
-    );
-    expect_none(
-        rt,
-        "000102030405060708090a0b0c0d0e0f101112131415161718191a1b1c1d1e1f\n\n",
-        7,
-    );
-    expect_none(
-        rt,
-        " 000102030405060708090a0b0c0d0e0f101112131415161718191a1b1c1d1e1f",
-        8,
-    );
-}
-
-/// A second line is a whole key.
-fn expect_no_second_keys<R: Abort>(rt: &R) {
-    expect_none(
-        rt,
-        "000102030405060708090a0b0c0d0e0f101112131415161718191a1b1c1d1e1f\n00\n",
-        9,
-    );
-    expect_none(
-        rt,
-        "000102030405060708090a0b0c0d0e0f101112131415161718191a1b1c1d1e1f f0e1d2c3b4a5968778695a4b3c2d1e0ff0e1d2c3b4a5968778695a4b3c2d1e0f\n",
-        10,
-    );
-    expect_none(
-        rt,
-        "000102030405060708090a0b0c0d0e0f101112131415161718191a1b1c1d1e1f\nf0e1d2c3b4a5968778695a4b3c2d1e0ff0e1d2c3b4a5968778695a4b3c2d1e0z\n",
-        11,
-    );
-}
+/// Texts that are no keys; a second line is a whole key.
+const NO_KEYS: [&str; 12] = [
+    "",
+    "\n",
+    "00",
+    "000102030405060708090a0b0c0d0e0f101112131415161718191a1b1c1d1e1\n",
+    "000102030405060708090a0b0c0d0e0f101112131415161718191a1b1c1d1e1f0\n",
+    "000102030405060708090a0b0c0d0e0f101112131415161718191a1b1c1d1e1g\n",
+    "000102030405060708090a0b0c0d0e0f101112131415161718191a1b1c1d1e1f\r\n",
+    "000102030405060708090a0b0c0d0e0f101112131415161718191a1b1c1d1e1f\n\n",
+    " 000102030405060708090a0b0c0d0e0f101112131415161718191a1b1c1d1e1f",
+    "000102030405060708090a0b0c0d0e0f101112131415161718191a1b1c1d1e1f\n00\n",
+    "000102030405060708090a0b0c0d0e0f101112131415161718191a1b1c1d1e1f f0e1d2c3b4a5968778695a4b3c2d1e0ff0e1d2c3b4a5968778695a4b3c2d1e0f\n",
+    "000102030405060708090a0b0c0d0e0f101112131415161718191a1b1c1d1e1f\nf0e1d2c3b4a5968778695a4b3c2d1e0ff0e1d2c3b4a5968778695a4b3c2d1e0z\n",
+];
 
 #[test]
 fn texts_that_are_no_keys(rt: HostRuntime) {
-    expect_no_keys(&rt);
-    expect_no_second_keys(&rt);
+    for (row, text) in NO_KEYS.iter().enumerate() {
+        expect!(rt; Key::read(text.as_bytes()).is_none(), row as u64);
+    }
 }
 
 #[test]

@@ -1,37 +1,25 @@
 //! A link with a reorder buffer, over a link in memory. The stations are those of
 //! docs/PROTOCOL.md, "An exchange, byte for byte".
-use crate::expect::expect_row;
-use crate::reorder::packets::{custody, data, heard, limited, put, refused};
+use crate::expect::{expect, expect_row};
+use crate::reorder::packets::{Sent, are_sent, custody, data, limited, put, refused};
 use rly_hop::StationId;
 use rly_link::{Link, LinkFault, MAX_PACKET, MemLink, Sleep};
 use rly_link_reorder::{ReorderBuffer, ReorderedLink};
 use std::alloc::Global;
 use std::process::Abort;
 
-/// Station 7's link with station 3 over one that returns these packets, and nothing for an empty one. It buffers
-/// Data of payloads up to 1,200 bytes.
-fn ahead_over<R: Abort>(
-    rt: &R,
-    alloc: Global,
-    coming: &[&[u8]],
-    fails_at: u64,
-) -> ReorderedLink<MemLink> {
-    ahead_for(rt, alloc, 1_223, coming, fails_at)
-}
-
-/// The same for packets of at most this many bytes.
+/// Station 7's link with station 3 over one that returns these packets. It buffers packets of at most this many bytes.
 fn ahead_for<R: Abort>(
     rt: &R,
     alloc: Global,
     longest: usize,
     coming: &[&[u8]],
-    fails_at: u64,
 ) -> ReorderedLink<MemLink> {
     let mut packets = Vec::new(alloc);
     for packet in coming {
         put(rt, alloc, &mut packets, *packet);
     }
-    let below = MemLink::new(alloc, packets, fails_at);
+    let below = MemLink::new(alloc, packets, 0);
     let early = ReorderBuffer::new(alloc, longest).expect(rt, "memory");
     ReorderedLink::new(below, StationId(7), StationId(3), early)
 }
@@ -53,6 +41,8 @@ enum Act<'a> {
     Fails,
     /// This packet is sent.
     Sends(&'a [u8]),
+    /// The refusal of this number is sent.
+    Refuses(u8),
     /// Custody of all numbers up to this one is sent.
     Acknowledges(u8),
     /// The same, and the call fails.
@@ -95,6 +85,7 @@ fn is_seen(link: &mut ReorderedLink<MemLink>, act: &Act<'_>) -> bool {
         Act::Nothing => waited(link) == Ok(None),
         Act::Fails => waited(link) == Err(LinkFault),
         Act::Sends(packet) => link.send(*packet) == Ok(()),
+        Act::Refuses(number) => link.send(&refused(*number)) == Ok(()),
         Act::Acknowledges(last) => link.send(&custody(*last)) == Ok(()),
         Act::AcknowledgesNot(last) => link.send(&custody(*last)) == Err(LinkFault),
         Act::Calls(calls) => link.link().calls() == *calls,
@@ -119,140 +110,219 @@ fn run<R: Abort>(rt: &R, link: &mut ReorderedLink<MemLink>, acts: &[Act<'_>]) {
     }
 }
 
-/// Exactly these packets were sent over the link below.
-fn expect_sent<R: Abort>(rt: &R, below: &MemLink, packets: &[&[u8]]) {
-    let delivered = below.deliveries();
-    expect!(*rt; delivered.len() == packets.len());
-    let mut row = 0u64;
-    for (sent, packet) in delivered.iter().zip(packets) {
-        row = row.saturating_add(1);
-        expect_row(rt, sent.as_slice() == *packet, "sent", row);
+/// What a row shows, the numbers of the Data that are received, 0 for a receive of nothing, the call of the link below
+/// that fails, the acts, and the packets that are sent below.
+type Row = (
+    &'static str,
+    &'static [u8],
+    u64,
+    &'static [Act<'static>],
+    &'static [Sent],
+);
+
+/// The link of a row.
+fn link_of<R: Abort>(
+    rt: &R,
+    alloc: Global,
+    numbers: &[u8],
+    fails_at: u64,
+) -> ReorderedLink<MemLink> {
+    let mut packets = Vec::new(alloc);
+    for number in numbers {
+        match number {
+            0 => put(rt, alloc, &mut packets, &[]),
+            _ => put(rt, alloc, &mut packets, &data(*number)),
+        }
+    }
+    let below = MemLink::new(alloc, packets, fails_at);
+    let early = ReorderBuffer::new(alloc, 1_223).expect(rt, "memory");
+    ReorderedLink::new(below, StationId(7), StationId(3), early)
+}
+
+fn expect_told<R: Abort>(rt: &R, alloc: Global, row: &Row) {
+    let (shows, numbers, fails_at, acts, sent) = row;
+    let mut link = link_of(rt, alloc, *numbers, *fails_at);
+    run(rt, &mut link, *acts);
+    expect(rt, are_sent(&link.into_link(), *sent), *shows);
+}
+
+const ROWS: [Row; 9] = [
+    // Data 3 is received, and no custody of it is sent. Once 2 is received, 3 is delivered again, without a receive of
+    // the link below.
+    (
+        "a lost packet costs itself alone",
+        &[1, 0, 3, 0, 2, 0],
+        0,
+        &[
+            Act::Data(1),
+            Act::Nothing,
+            Act::Acknowledges(1),
+            Act::Data(3),
+            Act::Nothing,
+            Act::Acknowledges(1),
+            Act::Data(2),
+            Act::Calls(8),
+            Act::Data(3),
+            Act::Calls(8),
+            Act::Nothing,
+            Act::Acknowledges(3),
+            Act::Nothing,
+        ],
+        &[
+            (2, 1, 0),
+            (2, 1, 0),
+            (5, 1, 0x4000_0000_0000_0000),
+            (2, 3, 0),
+        ],
+    ),
+    // 1 is kept, 2 was lost, and 3 and 4 wait for it: one Heard, the one of docs/PROTOCOL.md.
+    (
+        "a gap is told after the custody",
+        &[1, 3, 4],
+        0,
+        &[
+            Act::Data(1),
+            Act::Data(3),
+            Act::Data(4),
+            Act::Heards(0),
+            Act::Acknowledges(1),
+            Act::Heards(1),
+        ],
+        &[(2, 1, 0), (5, 1, 0x6000_0000_0000_0000)],
+    ),
+    (
+        "without a gap nothing is told",
+        &[1, 2, 3],
+        0,
+        &[
+            Act::Data(1),
+            Act::Data(2),
+            Act::Acknowledges(2),
+            Act::Data(3),
+            Act::Acknowledges(3),
+            Act::Heards(0),
+        ],
+        &[(2, 2, 0), (2, 3, 0)],
+    ),
+    // A second custody has a Heard only if Data came since the first one, whatever Data that is.
+    (
+        "a gap is told again only after Data",
+        &[1, 3, 0, 1],
+        0,
+        &[
+            Act::Data(1),
+            Act::Data(3),
+            Act::Acknowledges(1),
+            Act::Nothing,
+            Act::Acknowledges(1),
+            Act::Heards(1),
+            Act::Data(1),
+            Act::Acknowledges(1),
+            Act::Heards(2),
+        ],
+        &[
+            (2, 1, 0),
+            (5, 1, 0x4000_0000_0000_0000),
+            (2, 1, 0),
+            (2, 1, 0),
+            (5, 1, 0x4000_0000_0000_0000),
+        ],
+    ),
+    // As 2 after 1 here; a refusal alone has no Heard after it.
+    (
+        "a number that was refused is marked",
+        &[1, 2],
+        0,
+        &[
+            Act::Data(1),
+            Act::Data(2),
+            Act::Refuses(2),
+            Act::Calls(3),
+            Act::Acknowledges(1),
+        ],
+        &[(3, 2, 0), (2, 1, 0), (5, 1, 0x8000_0000_0000_0000)],
+    ),
+    // None follows later without new Data.
+    (
+        "a custody that can't be sent has no Heard after it",
+        &[1, 3],
+        3,
+        &[
+            Act::Data(1),
+            Act::Data(3),
+            Act::AcknowledgesNot(1),
+            Act::Failed(1),
+            Act::Heards(0),
+            Act::Acknowledges(1),
+            Act::Heards(0),
+        ],
+        &[(2, 1, 0)],
+    ),
+    (
+        "a Heard that can't be sent is a failure of the call, and counts as sent",
+        &[1, 3],
+        4,
+        &[
+            Act::Data(1),
+            Act::Data(3),
+            Act::AcknowledgesNot(1),
+            Act::Failed(1),
+            Act::Heards(1),
+            Act::Acknowledges(1),
+            Act::Heards(1),
+        ],
+        &[(2, 1, 0), (2, 1, 0)],
+    ),
+    (
+        "a receive that waits returns a due packet at once",
+        &[2],
+        0,
+        &[
+            Act::Data(2),
+            Act::Acknowledges(1),
+            Act::DataAtOnce(2),
+            Act::Waited(0),
+            Act::Nothing,
+            Act::Waited(1),
+        ],
+        &[(2, 1, 0), (5, 1, 0x8000_0000_0000_0000)],
+    ),
+    (
+        "a call that fails below fails, and is counted there",
+        &[2, 3],
+        2,
+        &[
+            Act::Data(2),
+            Act::Fails,
+            Act::Failed(1),
+            Act::Acknowledges(1),
+            Act::Data(2),
+            Act::Failed(1),
+        ],
+        &[(2, 1, 0), (5, 1, 0x8000_0000_0000_0000)],
+    ),
+];
+
+#[test]
+fn acts_on_a_link(rt: HostRuntime) {
+    for row in &ROWS {
+        expect_told(&rt, rt.alloc(), row);
     }
 }
 
-/// Data 2 is lost. Data 3 is received, and no custody of it is sent. Once 2 is received, 3 is delivered again,
-/// without a receive of the link below.
-#[test]
-fn a_lost_packet_costs_itself_alone(rt: HostRuntime) {
-    let coming: &[&[u8]] = &[&data(1), &[], &data(3), &[], &data(2), &[]];
-    let mut link = ahead_over(&rt, rt.alloc(), coming, 0);
-    let acts: &[Act<'_>] = &[
-        Act::Data(1),
-        Act::Nothing,
-        Act::Acknowledges(1),
-        Act::Data(3),
-        Act::Nothing,
-        Act::Acknowledges(1),
-        Act::Data(2),
-        Act::Calls(8),
-        Act::Data(3),
-        Act::Calls(8),
-        Act::Nothing,
-        Act::Acknowledges(3),
-        Act::Nothing,
-    ];
-    run(&rt, &mut link, acts);
-    let told = heard(1, *b"\x40\x00\x00\x00\x00\x00\x00\x00");
-    let sent: &[&[u8]] = &[&custody(1), &custody(1), &told, &custody(3)];
-    expect_sent(&rt, &link.into_link(), sent);
-}
-
-/// Station 7's link receives these, does the acts, and sends exactly these packets below.
-fn expect_told<R: Abort>(
-    rt: &R,
-    alloc: Global,
-    coming: &[&[u8]],
-    fails_at: u64,
-    acts: &[Act<'_>],
-    sent: &[&[u8]],
-) {
-    let mut link = ahead_over(rt, alloc, coming, fails_at);
-    run(rt, &mut link, acts);
-    expect_sent(rt, &link.into_link(), sent);
-}
-
-/// 1 is kept, 2 was lost, and 3 and 4 wait for it: one Heard after the custody, the one of docs/PROTOCOL.md.
-#[test]
-fn a_gap_is_told_after_the_custody(rt: HostRuntime) {
-    let coming: &[&[u8]] = &[&data(1), &data(3), &data(4)];
-    let acts: &[Act<'_>] = &[
-        Act::Data(1),
-        Act::Data(3),
-        Act::Data(4),
-        Act::Heards(0),
-        Act::Acknowledges(1),
-        Act::Heards(1),
-    ];
-    let told =
-        *b"\x52\x4c\x01\x05\x00\x07\x00\x03\x00\x00\x00\x00\x00\x00\x00\x01\x60\x00\x00\x00\x00\x00\x00\x00";
-    expect_told(&rt, rt.alloc(), coming, 0, acts, &[&custody(1), &told]);
-}
-
-/// Without a gap there is none.
-#[test]
-fn without_a_gap_nothing_is_told(rt: HostRuntime) {
-    let coming: &[&[u8]] = &[&data(1), &data(2), &data(3)];
-    let acts: &[Act<'_>] = &[
-        Act::Data(1),
-        Act::Data(2),
-        Act::Acknowledges(2),
-        Act::Data(3),
-        Act::Acknowledges(3),
-        Act::Heards(0),
-    ];
-    expect_told(
-        &rt,
-        rt.alloc(),
-        coming,
-        0,
-        acts,
-        &[&custody(2), &custody(3)],
-    );
-}
-
-/// A second custody has a Heard only if Data came since the first one, whatever Data that is.
-#[test]
-fn a_gap_is_told_again_only_after_data(rt: HostRuntime) {
-    let coming: &[&[u8]] = &[&data(1), &data(3), &[], &data(1)];
-    let acts: &[Act<'_>] = &[
-        Act::Data(1),
-        Act::Data(3),
-        Act::Acknowledges(1),
-        Act::Nothing,
-        Act::Acknowledges(1),
-        Act::Heards(1),
-        Act::Data(1),
-        Act::Acknowledges(1),
-        Act::Heards(2),
-    ];
-    let told = heard(1, *b"\x40\x00\x00\x00\x00\x00\x00\x00");
-    let sent: &[&[u8]] = &[&custody(1), &told, &custody(1), &custody(1), &told];
-    expect_told(&rt, rt.alloc(), coming, 0, acts, sent);
-}
-
-/// A number that was refused is marked, as 2 after 1 here; a refusal alone has no Heard after it.
-#[test]
-fn a_refused_number_is_told(rt: HostRuntime) {
-    let coming: &[&[u8]] = &[&data(1), &data(2)];
-    let acts: &[Act<'_>] = &[
-        Act::Data(1),
-        Act::Data(2),
-        Act::Sends(&refused(2)),
-        Act::Calls(3),
-        Act::Acknowledges(1),
-    ];
-    let told = heard(1, *b"\x80\x00\x00\x00\x00\x00\x00\x00");
-    expect_told(
-        &rt,
-        rt.alloc(),
-        coming,
-        0,
-        acts,
-        &[&refused(2), &custody(1), &told],
-    );
-}
-
 /// A refusal to or of another station marks nothing.
+fn expect_unmarked<R: Abort>(rt: &R, alloc: Global, other: &[u8]) {
+    let mut link = link_of(rt, alloc, &[1], 0);
+    let acts: &[Act<'_>] = &[
+        Act::Data(1),
+        Act::Sends(other),
+        Act::Acknowledges(1),
+        Act::Heards(0),
+        Act::Calls(3),
+    ];
+    run(rt, &mut link, acts);
+}
+
 #[test]
 fn refusals_of_others_are_not_told(rt: HostRuntime) {
     let mut to_other = refused(2);
@@ -260,66 +330,20 @@ fn refusals_of_others_are_not_told(rt: HostRuntime) {
     let mut of_other = refused(2);
     of_other[5] = 8;
     for other in [to_other, of_other] {
-        let acts: &[Act<'_>] = &[Act::Data(1), Act::Sends(&other), Act::Acknowledges(1)];
-        expect_told(
-            &rt,
-            rt.alloc(),
-            &[&data(1)],
-            0,
-            acts,
-            &[&other, &custody(1)],
-        );
+        expect_unmarked(&rt, rt.alloc(), &other);
     }
-}
-
-/// Checks a send of the link below that fails, after which this many Heards were sent, and these packets.
-fn expect_failure<R: Abort>(rt: &R, alloc: Global, fails_at: u64, heards: u64, sent: &[&[u8]]) {
-    let coming: &[&[u8]] = &[&data(1), &data(3)];
-    let acts: &[Act<'_>] = &[
-        Act::Data(1),
-        Act::Data(3),
-        Act::AcknowledgesNot(1),
-        Act::Failed(1),
-        Act::Heards(heards),
-        Act::Acknowledges(1),
-        Act::Heards(heards),
-    ];
-    expect_told(rt, alloc, coming, fails_at, acts, sent);
-}
-
-/// A custody that can't be sent has no Heard after it, and none follows later without new Data. A Heard that can't be
-/// sent is a failure of the call, and counts as sent.
-#[test]
-fn a_failure_of_either_is_told(rt: HostRuntime) {
-    expect_failure(&rt, rt.alloc(), 3, 0, &[&custody(1)]);
-    expect_failure(&rt, rt.alloc(), 4, 1, &[&custody(1), &custody(1)]);
-}
-
-/// A receive that waits returns a due packet at once.
-#[test]
-fn what_is_due_is_not_waited_for(rt: HostRuntime) {
-    let mut link = ahead_over(&rt, rt.alloc(), &[&data(2)], 0);
-    let acts: &[Act<'_>] = &[
-        Act::Data(2),
-        Act::Acknowledges(1),
-        Act::DataAtOnce(2),
-        Act::Waited(0),
-        Act::Nothing,
-        Act::Waited(1),
-    ];
-    run(&rt, &mut link, acts);
 }
 
 /// Checks that a packet is delivered, and isn't stored.
 fn expect_not_kept<R: Abort>(rt: &R, alloc: Global, longest: usize, packet: &[u8]) {
-    let mut link = ahead_for(rt, alloc, longest, &[packet], 0);
+    let mut link = ahead_for(rt, alloc, longest, &[packet]);
     let acts: &[Act<'_>] = &[Act::Gives(packet), Act::Acknowledges(1), Act::Nothing];
     run(rt, &mut link, acts);
 }
 
 /// Checks that a custody has no effect on the stored Data.
 fn expect_nothing_said<R: Abort>(rt: &R, alloc: Global, other: &[u8]) {
-    let mut link = ahead_over(rt, alloc, &[&data(2)], 0);
+    let mut link = link_of(rt, alloc, &[2], 0);
     let acts: &[Act<'_>] = &[
         Act::Data(2),
         Act::Sends(other),
@@ -356,24 +380,9 @@ fn custody_of_others_says_nothing(rt: HostRuntime) {
     }
 }
 
-/// A call that fails below fails, and is counted there.
-#[test]
-fn a_failure_below_is_told(rt: HostRuntime) {
-    let mut link = ahead_over(&rt, rt.alloc(), &[&data(2), &data(3)], 2);
-    let acts: &[Act<'_>] = &[
-        Act::Data(2),
-        Act::Fails,
-        Act::Failed(1),
-        Act::Acknowledges(1),
-        Act::Data(2),
-        Act::Failed(1),
-    ];
-    run(&rt, &mut link, acts);
-}
-
 /// A packet of Data 2 is received whole, with or without a wait, and delivered whole again in its turn.
 fn expect_given_again<R: Abort>(rt: &R, alloc: Global, longest: usize, packet: &[u8]) {
-    let mut link = ahead_for(rt, alloc, longest, &[packet, packet], 0);
+    let mut link = ahead_for(rt, alloc, longest, &[packet, packet]);
     let acts: &[Act<'_>] = &[
         Act::Gives(packet),
         Act::Waits(packet),

@@ -1,4 +1,5 @@
 //! The packets of these tests, by the bytes of docs/PROTOCOL.md.
+use rly_link::MemLink;
 use std::alloc::{AllocError, Global};
 use std::process::Abort;
 
@@ -28,7 +29,7 @@ pub(crate) fn custody(last: u8) -> [u8; 16] {
 }
 
 /// Heard from station 7 to station 3: the last number kept, and the bits of the 64 after it.
-pub(crate) fn heard(last: u8, bits: [u8; 8]) -> [u8; 24] {
+fn heard(last: u8, bits: [u8; 8]) -> [u8; 24] {
     let mut packet =
         *b"\x52\x4c\x01\x05\x00\x07\x00\x03\x00\x00\x00\x00\x00\x00\x00\x00\x00\x00\x00\x00\x00\x00\x00\x00";
     packet[15] = last;
@@ -60,4 +61,25 @@ pub(crate) fn put<R: Abort>(
 ) {
     let next = given(alloc, packet).expect(rt, "memory");
     coming.push(next).expect(rt, "memory");
+}
+
+/// A packet from station 7 to station 3: its kind (2 custody, 3 a refusal, 5 a Heard), its number, and a Heard's bits.
+pub(crate) type Sent = (u8, u8, u64);
+
+fn is_packet(packet: &[u8], (kind, number, bits): Sent) -> bool {
+    match kind {
+        2 => packet == custody(number).as_slice(),
+        3 => packet == refused(number).as_slice(),
+        _ => packet == heard(number, bits.to_be_bytes()).as_slice(),
+    }
+}
+
+/// Returns true iff exactly these packets were sent over a link.
+pub(crate) fn are_sent(link: &MemLink, sent: &[Sent]) -> bool {
+    for (packet, one) in link.deliveries().iter().zip(sent) {
+        if !is_packet(packet, *one) {
+            return false;
+        }
+    }
+    link.deliveries().len() == sent.len()
 }

@@ -77,18 +77,20 @@ fn is_done<R: Abort>(rt: &R, early: &mut ReorderBuffer, act: Act) -> bool {
 }
 
 /// Executes the events in order.
-fn run<R: Abort>(rt: &R, early: &mut ReorderBuffer, acts: &[Act]) {
+fn run<R: Abort>(rt: &R, early: &mut ReorderBuffer, shows: &str, acts: &[Act]) {
     let mut row = 0u64;
     for act in acts {
         row = row.saturating_add(1);
-        expect_row(rt, is_done(rt, early, *act), "no more", row);
+        expect_row(rt, is_done(rt, early, *act), shows, row);
     }
 }
 
-/// The same for packets of at most this many bytes.
-fn run_for<R: Abort>(rt: &R, alloc: Global, longest: usize, acts: &[Act]) {
+/// What a script shows, the maximum number of bytes of a packet, and its events.
+type Script = (&'static str, usize, &'static [Act]);
+
+fn run_new<R: Abort>(rt: &R, alloc: Global, (shows, longest, acts): Script) {
     let mut early = ReorderBuffer::new(alloc, longest).expect(rt, "memory");
-    run(rt, &mut early, acts);
+    run(rt, &mut early, shows, acts);
 }
 
 /// 1, 3 and 4 were received. Once 2 is, 3 and 4 are delivered again, once.
@@ -103,11 +105,6 @@ const MISSING: &[Act] = &[
     Act::Covers(4),
     Act::GivesNothing,
 ];
-
-#[test]
-fn what_came_early_follows_what_was_missing(rt: HostRuntime) {
-    run_for(&rt, rt.alloc(), 1_223, MISSING);
-}
 
 /// 1 to 5 were received, and the spool had room for two. Custody of 2 delivers 3 to 5 again, and the same custody
 /// again delivers nothing. Later the neighbour sends 3 again and it is taken: then 4 and 5 are delivered again.
@@ -125,11 +122,6 @@ const REST: &[Act] = &[
     Act::Gives(4, 5),
 ];
 
-#[test]
-fn custody_of_more_gives_the_rest_once(rt: HostRuntime) {
-    run_for(&rt, rt.alloc(), 1_223, REST);
-}
-
 /// 2 and 4 are missing, 3 and 5 were received twice. Each is delivered once, in order.
 const TWO_GAPS: &[Act] = &[
     Act::Hears(1, 1),
@@ -145,11 +137,6 @@ const TWO_GAPS: &[Act] = &[
     Act::Gives(5, 5),
 ];
 
-#[test]
-fn two_gaps_are_closed_one_after_the_other(rt: HostRuntime) {
-    run_for(&rt, rt.alloc(), 1_223, TWO_GAPS);
-}
-
 /// Custody is of 10. 74 is 64 above it and is stored; 75 isn't, though it is received before 74.
 const FAR_AHEAD: &[Act] = &[
     Act::Covers(10),
@@ -160,11 +147,6 @@ const FAR_AHEAD: &[Act] = &[
     Act::Gives(74, 74),
 ];
 
-#[test]
-fn numbers_far_ahead_are_not_kept(rt: HostRuntime) {
-    run_for(&rt, rt.alloc(), 1_223, FAR_AHEAD);
-}
-
 /// Custody of 10 is the first of this run. 11 is missing, and 12 to 74 were received: all 63 are delivered again,
 /// in order.
 const WINDOW: &[Act] = &[
@@ -174,11 +156,6 @@ const WINDOW: &[Act] = &[
     Act::Hears(11, 11),
     Act::Gives(12, 74),
 ];
-
-#[test]
-fn a_whole_window_is_kept(rt: HostRuntime) {
-    run_for(&rt, rt.alloc(), 1_223, WINDOW);
-}
 
 /// A number that custody covers isn't delivered, even if it was stored. So its slot is free for the number that is
 /// 64 above it.
@@ -191,11 +168,6 @@ const COVERED: &[Act] = &[
     Act::Gives(68, 68),
 ];
 
-#[test]
-fn what_is_covered_is_not_given(rt: HostRuntime) {
-    run_for(&rt, rt.alloc(), 1_223, COVERED);
-}
-
 /// The last number of 64 bits is never stored, so that deliveries end.
 const LAST: &[Act] = &[
     Act::Covers(u64::MAX - 3),
@@ -204,11 +176,6 @@ const LAST: &[Act] = &[
     Act::HearsAs(u64::MAX - 2, 3),
     Act::Gives(1, 1),
 ];
-
-#[test]
-fn the_last_number_is_not_kept(rt: HostRuntime) {
-    run_for(&rt, rt.alloc(), 1_223, LAST);
-}
 
 /// A packet above the maximum length isn't stored: 3 has to be received again, and then 4 is delivered.
 const LONGER: &[Act] = &[
@@ -221,11 +188,6 @@ const LONGER: &[Act] = &[
     Act::Gives(4, 4),
 ];
 
-#[test]
-fn a_longer_packet_is_not_kept(rt: HostRuntime) {
-    run_for(&rt, rt.alloc(), 21, LONGER);
-}
-
 /// Without slots nothing is stored.
 const NO_ROOM: &[Act] = &[
     Act::Hears(1, 1),
@@ -236,7 +198,12 @@ const NO_ROOM: &[Act] = &[
 
 #[test]
 fn without_room_nothing_is_kept(rt: HostRuntime) {
-    run(&rt, &mut ReorderBuffer::without_room(rt.alloc()), NO_ROOM);
+    run(
+        &rt,
+        &mut ReorderBuffer::without_room(rt.alloc()),
+        "no room",
+        NO_ROOM,
+    );
 }
 
 /// A packet that doesn't fit into the buffer stays in its slot.
@@ -247,11 +214,6 @@ const SHORT: &[Act] = &[
     Act::FitsNot,
     Act::Gives(3, 3),
 ];
-
-#[test]
-fn what_does_not_fit_stays(rt: HostRuntime) {
-    run_for(&rt, rt.alloc(), 1_223, SHORT);
-}
 
 /// Custody of 10 is the first of this run. 12 to 74 wait for 11: all places but the first are marked. 75 is refused and
 /// beyond the places; once custody covers 11 to 14 it is the 61st, and 15 to 74 are marked before it.
@@ -267,11 +229,6 @@ const MARKED: &[Act] = &[
     Act::Tells(0xffff_ffff_ffff_fff8),
 ];
 
-#[test]
-fn what_waits_or_was_refused_is_marked(rt: HostRuntime) {
-    run_for(&rt, rt.alloc(), 1_223, MARKED);
-}
-
 /// After the last numbers of 64 bits there are no places: the last one is never stored, and a refusal of 0 is none.
 const LAST_MARKED: &[Act] = &[
     Act::Covers(u64::MAX - 2),
@@ -282,7 +239,27 @@ const LAST_MARKED: &[Act] = &[
     Act::Tells(0x4000_0000_0000_0000),
 ];
 
+const SCRIPTS: [Script; 11] = [
+    ("what came early follows what was missing", 1_223, MISSING),
+    ("custody of more gives the rest once", 1_223, REST),
+    ("two gaps are closed one after the other", 1_223, TWO_GAPS),
+    ("numbers far ahead are not kept", 1_223, FAR_AHEAD),
+    ("a whole window is kept", 1_223, WINDOW),
+    ("what is covered is not given", 1_223, COVERED),
+    ("the last number is not kept", 1_223, LAST),
+    ("a longer packet is not kept", 21, LONGER),
+    ("what does not fit stays", 1_223, SHORT),
+    ("what waits or was refused is marked", 1_223, MARKED),
+    (
+        "places beyond the last number are not marked",
+        1_223,
+        LAST_MARKED,
+    ),
+];
+
 #[test]
-fn places_beyond_the_last_number_are_not_marked(rt: HostRuntime) {
-    run_for(&rt, rt.alloc(), 1_223, LAST_MARKED);
+fn worked_scripts(rt: HostRuntime) {
+    for script in &SCRIPTS {
+        run_new(&rt, rt.alloc(), *script);
+    }
 }

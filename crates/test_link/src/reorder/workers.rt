@@ -1,5 +1,5 @@
 //! A receiving worker over a link with a reorder buffer.
-use crate::reorder::packets::{custody, data, heard, put};
+use crate::reorder::packets::{Sent, are_sent, data, put};
 use rly_core::{Params, PeerId};
 use rly_hop::StationId;
 use rly_link::{MemLink, MemTurn, MemWaker};
@@ -62,76 +62,81 @@ fn ends_of<R: Abort>(rt: &R, alloc: Global, turns: &[&[u8]]) -> MemEnds {
     }
 }
 
-/// Exactly these packets were sent.
-fn has_sent<R: Abort>(rt: &R, ends: &MemEnds, packets: &[&[u8]]) {
-    let sent = ends.link.link().deliveries();
-    crate::expect::expect(rt, sent.len() == packets.len(), "as many as these");
-    let mut row = 0u64;
-    for (packet, other) in sent.iter().zip(packets) {
-        row = row.saturating_add(1);
-        crate::expect::expect_row(rt, packet.as_slice() == *other, "packet", row);
-    }
-}
+/// What a row shows; the numbers of the Data of each turn; the packets that are sent; and then the number of datagrams
+/// stored, of calls made, and of receives that waited. A number of calls or receives that is 0 isn't compared.
+type Row = (
+    &'static str,
+    &'static [&'static [u8]],
+    &'static [Sent],
+    [u64; 3],
+);
 
-/// The state after a worker ended: the datagrams stored, the calls made, and the receives that waited.
-#[derive(Clone, Copy)]
-struct Ended {
-    items: u64,
-    calls: u64,
-    waits: u64,
+/// Returns true iff a worker that ended left what a row says.
+fn is_left(ends: &MemEnds, row: &Row) -> bool {
+    let [items, calls, waits] = row.3;
+    let link = ends.link.link();
+    are_sent(link, row.2)
+        && ends.desk.machine().item_count() == items
+        && (calls == 0 || ends.desk.calls() == calls)
+        && (waits == 0 || link.waits() == waits)
 }
 
 /// The worker receives all packets of its link, and its link sends these.
-fn run<R: Abort + Wait>(rt: &R, alloc: Global, ends: &mut MemEnds, sent: &[&[u8]]) -> Ended {
+fn run<R: Abort + Wait>(rt: &R, alloc: Global, ends: &mut MemEnds, row: &Row) {
     let plan = Plan::from_toml(alloc, PLAN).ok().expect(rt, "a plan");
     receiver_run(rt, alloc, &plan, PeerId(1), ends);
-    has_sent(rt, ends, sent);
-    Ended {
-        items: ends.desk.machine().item_count(),
-        calls: ends.desk.calls(),
-        waits: ends.link.link().waits(),
+    crate::expect::expect(rt, is_left(ends, row), row.0);
+}
+
+/// A new worker receives the turns of a row.
+fn receive<R: Abort + Wait>(rt: &R, alloc: Global, row: &Row) {
+    let mut ends = ends_of(rt, alloc, row.1);
+    run(rt, alloc, &mut ends, row);
+}
+
+const ROWS: [Row; 4] = [
+    // In the turn in which 2 is received the eight after it are asked with it. The first custody has a Heard after it,
+    // of 3 to 10.
+    (
+        "one lost packet of ten is sent again alone",
+        &[&[1, 3, 4, 5, 6, 7, 8, 9, 10], &[2]],
+        &[(2, 1, 0), (5, 1, 0x7f80_0000_0000_0000), (2, 10, 0)],
+        [10, 18, 2],
+    ),
+    // 3 is stored, and custody stays at 1. A turn in which nothing came sends nothing.
+    (
+        "a stored Data is not acknowledged",
+        &[&[1], &[3], &[], &[3]],
+        &[
+            (2, 1, 0),
+            (2, 1, 0),
+            (5, 1, 0x4000_0000_0000_0000),
+            (2, 1, 0),
+            (5, 1, 0x4000_0000_0000_0000),
+        ],
+        [1, 0, 0],
+    ),
+    (
+        "packets that overtake each other within a turn are taken in it",
+        &[&[3, 1, 2]],
+        &[(2, 3, 0)],
+        [3, 0, 0],
+    ),
+    (
+        "in order nothing is asked twice",
+        &[&[1, 2, 3], &[4, 5], &[6]],
+        &[(2, 3, 0), (2, 5, 0), (2, 6, 0)],
+        [6, 6, 0],
+    ),
+];
+
+fn expect_rows<R: Abort + Wait>(rt: &R, alloc: Global, rows: &[Row]) {
+    for row in rows {
+        receive(rt, alloc, row);
     }
 }
 
-/// A new worker receives these turns, one list of numbers each, and its link sends these packets.
-fn receive<R: Abort + Wait>(rt: &R, alloc: Global, turns: &[&[u8]], sent: &[&[u8]]) -> Ended {
-    let mut ends = ends_of(rt, alloc, turns);
-    run(rt, alloc, &mut ends, sent)
-}
-
-/// Data 2 of ten is lost. In the turn in which it is received the eight after it are asked with it, and one custody
-/// of all is sent. The first custody has a Heard after it, of 3 to 10.
 #[test]
-fn one_lost_packet_is_sent_again_alone(rt: HostRuntime) {
-    let turns: &[&[u8]] = &[&[1, 3, 4, 5, 6, 7, 8, 9, 10], &[2]];
-    let told = heard(1, *b"\x7f\x80\x00\x00\x00\x00\x00\x00");
-    let ended = receive(&rt, rt.alloc(), turns, &[&custody(1), &told, &custody(10)]);
-    expect!(rt; ended.items == 10);
-    expect!(rt; ended.calls == 18);
-    expect!(rt; ended.waits == 2);
-}
-
-/// A stored Data isn't acknowledged: 3 is stored, and custody stays at 1. A turn in which nothing came sends nothing.
-#[test]
-fn what_is_kept_is_not_acknowledged(rt: HostRuntime) {
-    let told = heard(1, *b"\x40\x00\x00\x00\x00\x00\x00\x00");
-    let sent: &[&[u8]] = &[&custody(1), &custody(1), &told, &custody(1), &told];
-    let ended = receive(&rt, rt.alloc(), &[&[1], &[3], &[], &[3]], sent);
-    expect!(rt; ended.items == 1);
-}
-
-/// Packets that overtake each other within a turn are taken in it.
-#[test]
-fn what_overtakes_is_taken_in_its_turn(rt: HostRuntime) {
-    let ended = receive(&rt, rt.alloc(), &[&[3, 1, 2]], &[&custody(3)]);
-    expect!(rt; ended.items == 3);
-}
-
-/// If all are in order, nothing is asked twice.
-#[test]
-fn in_order_nothing_is_given_again(rt: HostRuntime) {
-    let sent: &[&[u8]] = &[&custody(3), &custody(5), &custody(6)];
-    let ended = receive(&rt, rt.alloc(), &[&[1, 2, 3], &[4, 5], &[6]], sent);
-    expect!(rt; ended.items == 6);
-    expect!(rt; ended.calls == 6);
+fn workers_over_a_reorder_buffer(rt: HostRuntime) {
+    expect_rows(&rt, rt.alloc(), &ROWS);
 }

@@ -31,6 +31,7 @@ pub(crate) enum Act {
     /// A packet arrives at the lower, whose Take isn't made yet.
     LowerHears(usize),
     LowerMakes,
+    LowerAnswers,
     /// A packet arrives at the lower, whose Take is made and gets its reply.
     LowerTakes(usize),
     /// Another client picks at the lower.
@@ -102,7 +103,7 @@ fn says(message: &Message<Payload>, said: Said) -> bool {
 }
 
 /// Returns true iff the packets have exactly these contents, in this order.
-fn say(packets: &[Message<Payload>], wanted: &[Said]) -> bool {
+pub(crate) fn say(packets: &[Message<Payload>], wanted: &[Said]) -> bool {
     packets.len() == wanted.len()
         && packets
             .iter()
@@ -169,7 +170,7 @@ fn fault(at: u64) -> Fault {
 }
 
 /// Returns the step of an act. Acts of several steps have none.
-fn step_of<R: Abort>(rt: &R, alloc: Global, act: Act) -> Step {
+pub(crate) fn step_of<R: Abort>(rt: &R, alloc: Global, act: Act) -> Step {
     match act {
         Act::ComesIn(number, limit, length) => comes_in(rt, alloc, number, (limit, length)),
         Act::Turn(moment) => turn(moment),
@@ -180,6 +181,7 @@ fn step_of<R: Abort>(rt: &R, alloc: Global, act: Act) -> Step {
         Act::UpperHears(packet) => Step::UpperHears { packet },
         Act::LowerHears(packet) => heard(packet),
         Act::LowerMakes => Step::LowerMakes,
+        Act::LowerAnswers => Step::LowerAnswers { is_sent: true },
         Act::LowerPicks(moment) => picks(moment),
         Act::UpperCrashes(torn, at) => Step::UpperCrashes {
             torn,

@@ -1,7 +1,8 @@
-//! Datagrams with age limits, through every phase of a round: in records, in the head of a segment
-//! that is opened, over crashes and openings, until a pick finds them expired.
+//! Datagrams with age limits: in records, in the head of a segment that is opened, over crashes and
+//! openings, until a pick finds them expired. `test_journal_stops` fails each device call of such
+//! rounds.
 use crate::relay::script::{
-    Act, NONE, Row, Told, expect_alone, expect_round, new_relay, open_again, open_at, told_once,
+    Act, NONE, Row, Told, expect_alone, expect_round, new_relay, open_again,
 };
 use rly_core::{Geometry, Params, Refusal};
 use rly_disk::Torn;
@@ -35,9 +36,6 @@ const LATE: u64 = 11;
 /// The bytes of a datagram. Two groups of eight and one of as many picks end at 93 + 2 * (7 + 8 * (23 + 255)) + 7 + 8 *
 /// 11 = 4,650, after which the largest group of 78,280 bytes doesn't fit: a segment is due.
 const LENGTH: usize = 255;
-
-/// An opening and a round that opens a segment make fewer device calls than this.
-const MOST_CALLS: u64 = 64;
 
 /// An act on a relay.
 #[derive(Clone, Copy)]
@@ -184,89 +182,4 @@ fn expect_limits<R: Abort>(rt: &R, alloc: Global) {
 #[test]
 fn limits_through_a_segment_that_is_opened_and_in_a_queue(rt: HostRuntime) {
     expect_limits(&rt, rt.alloc());
-}
-
-/// The counters after a late pick, and before it.
-const MADE: Told = Told::Shown((16, 0, 9, 0, 7, 0));
-
-const NOT_MADE: Told = Told::Shown((16, 8, 8, 0, 0, 0));
-
-/// After a late pick whose round failed at some device call, and a crash, it was applied or it wasn't. Then it is
-/// applied.
-fn expect_either<R: Abort>(rt: &R, alloc: Global, relay: &mut Relay, torn: Torn) -> bool {
-    open_again(rt, relay, torn);
-    let told = told_once(rt, alloc, relay, Act::Show);
-    let made = told == Some(MADE);
-    expect!(rt; made || told == Some(NOT_MADE));
-    if !made {
-        expect_alone(rt, alloc, relay, &[(PICK_LATE, PICKED_LATE)]);
-    }
-    expect_alone(rt, alloc, relay, &[(Act::Show, MADE)]);
-    expect_alone(rt, alloc, relay, &FIRST_FETCHED);
-    made
-}
-
-/// The outcome of a late pick on a device that fails at some call.
-#[derive(Clone, Copy, PartialEq, Eq)]
-enum Went {
-    /// None of its calls failed.
-    Picked,
-    /// A write or a sync failed.
-    Unsure,
-    /// The relay didn't open, or a read failed.
-    Not,
-}
-
-/// Returns the outcome, by the reply.
-fn went_by<R: Abort>(rt: &R, told: Option<Told>) -> Went {
-    if told == Some(PICKED_LATE) {
-        return Went::Picked;
-    }
-    if told == Some(Told::Refused(Refusal::Unsure)) {
-        return Went::Unsure;
-    }
-    expect!(rt; told == None || told == Some(Told::Refused(Refusal::DeviceRead)));
-    Went::Not
-}
-
-/// A full relay opens, opens a segment for a late pick, and appends it, on a device whose call of this number fails.
-/// After it and a crash, the picked datagram is there.
-fn late_pick<R: Abort>(rt: &R, alloc: Global, relay: &mut Relay, (torn, at): (Torn, u64)) -> Went {
-    go_through(rt, alloc, relay, &FILL);
-    open_at(rt, relay, at);
-    let went = went_by(rt, told_once(rt, alloc, relay, PICK_LATE));
-    let made = expect_either(rt, alloc, relay, torn);
-    expect!(rt; made || went != Went::Picked);
-    went
-}
-
-/// The same with a new relay.
-fn fails_at<R: Abort>(rt: &R, alloc: Global, torn: Torn, at: u64) -> Went {
-    let mut relay = new_relay(rt, alloc, &SMALL);
-    late_pick(rt, alloc, &mut relay, (torn, at))
-}
-
-/// Each device call fails in turn. Returns the number of writes and syncs among them, each of which makes the pick
-/// unsure.
-fn fails_at_each<R: Abort>(rt: &R, alloc: Global, torn: Torn) -> u64 {
-    let mut unsure = 0u64;
-    for at in 1..MOST_CALLS {
-        match fails_at(rt, alloc, torn, at) {
-            Went::Picked => return unsure,
-            Went::Unsure => unsure = unsure.saturating_add(1),
-            Went::Not => {}
-        }
-    }
-    panic!(rt; "some call fails in every round");
-}
-
-/// The head, its gate, the body and its gate are written and synced: these are at least eight calls.
-fn expect_phases<R: Abort>(rt: &R, alloc: Global) {
-    expect!(rt; fails_at_each(rt, alloc, Torn::AsSynced) >= 8);
-    expect!(rt; fails_at_each(rt, alloc, Torn::AsRead) >= 8);
-}
-
-#[test]
-fn limits_through_every_phase(rt: HostRuntime) {
-    expect_phases(&rt, rt.alloc());
 }

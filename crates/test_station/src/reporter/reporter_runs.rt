@@ -6,6 +6,7 @@ use crate::reporter::reporters::{Rising, plan_of};
 use rly_core::{Geometry, HopId, Params, PeerId};
 use rly_daemon_reporter::{ReportClock, ReporterEnd, run_reported};
 use rly_disk::{After, Disk, FaultDisk, MemDisk};
+use rly_flush::NoWatch;
 use rly_journal::Journal;
 use rly_link::{Go, MemLink, MemWaker, Point, Post, Turn, Worker};
 use rly_segment::format;
@@ -209,6 +210,7 @@ fn relay<'a, R: Abort + Threads + Wait + Clock + Sync + Copy + Send + Drop, D: D
         &plan,
         posts,
         &mut bell,
+        &mut NoWatch,
         pace,
         counters,
         written,

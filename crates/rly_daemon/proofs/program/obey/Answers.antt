@@ -32,7 +32,7 @@ pub returns-in-Plan-clause-refused : goal.returns-in-Plan-clause-refused
 returns-in-Plan-clause-refused g c = rw c.in-Plan.is (λ out. absurd out)
 
 pub returns-in-Plan-clause-done : goal.returns-in-Plan-clause-done
-returns-in-Plan-clause-done g c = rw c.in-Plan.is (rw c.of-in-Plan.ensures.same (command_ok _ c.run_plan.result (then_ok c.run_plan.result c.run_plan.ensures.told (λ told. (refl, told, refl)))))
+returns-in-Plan-clause-done g c = rw c.in-Plan.is (rw c.of-in-Plan.ensures.same (command_ok _ c.run_plan.result (then_ok c.run_plan.result c.run_plan.ensures.told (λ told. (refl, told)))))
 
 pub returns-in-Key-clause-done : goal.returns-in-Key-clause-done
 returns-in-Key-clause-done g c = rw c.in-Key.is (rw c.of-in-Key.ensures.same (command_ok _ c.new_key.result (then_ok c.new_key.result c.new_key.ensures.written (λ written. (refl, written, refl)))))

@@ -3,4 +3,6 @@ use Rattle.rly_daemon_args.proofs.commands.plan.Goals as goal
 
 pub returns : goal.returns
 unfolding plan_app
-returns c = c.with_arg.ensures _ _ (c.with_path-with_file.ensures _ c.command_with_help-bare.ensures) c.at.ensures.rule
+returns c =
+    let at = c.with_arg-with_at.ensures _ _ (c.with_path-with_file.ensures _ c.command_with_help-bare.ensures) c.at.ensures.rule in
+    c.with_arg.ensures _ _ at c.file_option-device.ensures.rule

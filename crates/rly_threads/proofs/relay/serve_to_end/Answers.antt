@@ -37,6 +37,6 @@ returns-clause-answered g c =
 -- as many have ended as had a thread
 pub returns-clause-told : goal.returns-clause-told
 returns-clause-told g c =
-    let all : c.have_started.result ≡ list_all is_some c.join_all-ended.result.items =
-    c.have_started.ensures ∙ ap (list_all is_some) c.deref-2.ensures.value ∙ all_there _ _ _ c.join_all-ended.ensures.joined in
+    let all : c.have_started-are_all.result ≡ list_all is_some c.join_all-ended.result.items =
+    c.have_started-are_all.ensures ∙ ap (list_all is_some) c.deref-2.ensures.value ∙ all_there _ _ _ c.join_all-ended.ensures.joined in
     c.value.ensures ∙ c.serve_and_tell-finished.ensures.said ∙ ap (λ all. c.serve_and_tell-finished.result.0.broken || not all) all

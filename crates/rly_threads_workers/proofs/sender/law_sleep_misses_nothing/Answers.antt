@@ -1,5 +1,5 @@
-use Rattle.rly_threads_workers.proofs.Asleep.{contact_lasts, report_is_used, sleep_misses_nothing}
+use Rattle.rly_threads_workers.proofs.Asleep.{contact_lasts, reports_are_used, sleep_misses_nothing}
 use Rattle.rly_threads_workers.proofs.sender.law_sleep_misses_nothing.Goals as goal
 
 pub returns : goal.returns
-returns c = record { nothing = sleep_misses_nothing; contact = contact_lasts; report = report_is_used }
+returns c = record { nothing = sleep_misses_nothing; contact = contact_lasts; reports = reports_are_used }

@@ -1,7 +1,8 @@
 use Rattle.std.proofs.Common.{◌≡◌, false, arith, refl, subst, sym}
 use Rattle.rly_flush.specs.FlusherHistory.{FlusherState, GrewInRound, IsCrashSafe, IsOneRound}
 use Rattle.rly_flush.specs.HelpersFlusher.{IsRoundReady}
-use Rattle.rly_flush.proofs.Crashing.{may_tell, one_round, stayed, went_on}
+use Rattle.rly_flush.specs.RoundWatch.{HasWatchedRound}
+use Rattle.rly_flush.proofs.Crashing.{may_tell, one_round, stayed, watched_round, went_on}
 use Rattle.rly_flush.proofs.flusher.Flusher.round.Goals as goal
 
 pub returns-then-not-collect-clause-history : goal.returns-then-not-collect-clause-history
@@ -56,3 +57,8 @@ returns-clause-any_moment g c =
     subst (λ (f : FlusherState g.row.D.Denot). (g.D.Disk.state f.journal.disk).honest → f.first.broken ≡ false
     → IsCrashSafe g.D.Disk.state f (record { first = c.self.inside.first.value.journal; journal = c.commit.new.journal; kept = c.collect.new.kept; line = c.answer_all.new.line })) c.self.view_is
     (went_on g.D.Disk.state g.met.D.Disk.consistent c.self.invariant.0 (c.if-not-collect.ensures.collected refl) c.collect.ensures.said c.commit.ensures.round c.if-not-collect.ensures.count.0 c.answer_all.ensures.line c.answer_all.ensures.holds).safe
+
+pub returns-clause-watched : goal.returns-clause-watched
+returns-clause-watched g c =
+    subst (λ (f : FlusherState g.row.D.Denot). HasWatchedRound (g.W.RoundWatch.shown c.args.watch.now) (g.W.RoundWatch.shown c.end.new.self) f (record { first = c.self.inside.first.value.journal; journal = c.commit.new.journal; kept = c.collect.new.kept; line = c.answer_all.new.line })) c.self.view_is
+    (watched_round g.D.Disk.state g.met.D.Disk.consistent c.self.invariant.0 (c.if-not-collect.ensures.collected refl) c.collect.ensures.said c.commit.ensures.round c.if-not-collect.ensures.count.0 c.answer_all.ensures.line _ _ _ _ _ c.item_count-items.ensures c.byte_count-bytes.ensures (rw c.deref.ensures.value at c.begin.ensures) (rw c.deref-2.ensures.value at c.end.ensures))

@@ -1,4 +1,4 @@
-use Rattle.std.proofs.Common.{◌≡◌, ◌+◌, length, take}
+use Rattle.std.proofs.Common.{◌≡◌, ◌+◌, take}
 use Rattle.std.specs.List.{filter, range_with_len}
 use Rattle.rly_hop_pacing.specs.CongestionControl.{is_missing}
 use Rattle.rly_hop_pacing.proofs.congestion_control.CongestionControl.missing.Given as goal

@@ -1,4 +1,4 @@
-use Rattle.std.proofs.Common.{◌≡◌, ◌+◌, length, take}
+use Rattle.std.proofs.Common.{◌≡◌, ◌+◌}
 use Rattle.std.specs.List.{filter, range_with_len}
 use Rattle.rly_hop_pacing.specs.CongestionControl.{first_of, is_spare}
 use Rattle.rly_hop_pacing.proofs.congestion_control.CongestionControl.repeated_before.Given as goal

@@ -1,4 +1,4 @@
-use Rattle.std.proofs.Common.{◌∙◌, ◌+◌, ◌≡◌, ap, arith}
+use Rattle.std.proofs.Common.{◌∙◌, ◌+◌, ap, arith}
 use Rattle.std.specs.Prelude.{if◌then◌else◌}
 use Rattle.rly_hop_pacing.specs.CongestionControl.{is_on_way}
 use Rattle.rly_hop_pacing.proofs.Numbers.{counted-more, filter-few}

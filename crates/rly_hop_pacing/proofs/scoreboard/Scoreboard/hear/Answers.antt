@@ -1,4 +1,4 @@
-use Rattle.std.proofs.Common.{◌∙◌, ◌+◌, ap, sym}
+use Rattle.std.proofs.Common.{◌∙◌, ◌+◌, sym}
 use Rattle.rly_hop_pacing.specs.Scoreboards.{heard_if, is_told}
 use Rattle.rly_hop_pacing.proofs.Numbers.{heard-more, heard-none}
 use Rattle.rly_hop_pacing.proofs.scoreboard.Scoreboard.hear.Goals as goal

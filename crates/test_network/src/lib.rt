@@ -1,0 +1,6 @@
+//! Tests of networks of plans: three plans that agree, and what is found where one of them is
+//! changed (docs/NETWORK.md).
+#![tactic(auto)]
+
+#[cfg(test)]
+mod networks;
