@@ -1,24 +1,9 @@
 """What `rly plan` warns of on standard error (`docs/COMMANDS.md`, "rly plan")."""
-from plans import changed
+from plans import WHOLE, changed
 from program import Rows
 
 # A plan without a warning: its contact ends in 2112.
-PLAN = """station = 7
-[[peer]]
-id = 1
-station = 3
-listen = "127.0.0.1:4001"
-remote = "127.0.0.1:4002"
-[[hop]]
-id = 1
-station = 9
-listen = "127.0.0.1:4003"
-remote = "127.0.0.1:4004"
-contacts = [[0, 4503599627370495]]
-[[route]]
-destination = 12
-hop = 1
-"""
+PLAN = WHOLE.replace("resend = 160\n", "").replace("[[100, 200], [300, 350]]", "[[0, 4503599627370495]]")
 
 # The year 2000 and a second of 2027, in microseconds.
 YEAR_2000 = 946_684_800_000_000
