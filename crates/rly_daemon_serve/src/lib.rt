@@ -8,7 +8,6 @@
 mod relay_with_events;
 mod reported_relay;
 mod served_relay;
-mod spool_watch;
 mod wall_report_clock;
 
 pub use crate::relay_with_events::{Events, serve_with_events};

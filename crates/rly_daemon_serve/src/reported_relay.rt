@@ -9,6 +9,7 @@ ghost use Rattle.rly_daemon_serve.specs.Helpers.{own_station, post_below, statio
 ghost use Rattle.rly_daemon_serve.specs.ReportedRelay.{HasReports};
 ghost use Rattle.rly_daemon_serve.specs.ServedRelay.{FitsPlan, HasRunOver, LacksRoom, end_fault};
 ghost use Rattle.rly_posts.specs.Duties.{duties, duty_over};
+ghost use Rattle.rly_spool_log.specs.SpoolLog.{first_log};
 ghost use Rattle.rly_station.specs.Workers.{workers_of};
 ghost use Rattle.rly_hop.specs.Spelling.{longest_message};
 ghost use Rattle.rly_journal.specs.Journal.{JournalState};
@@ -21,7 +22,6 @@ ghost use Rattle.rly_line.specs.ResponderView.{IsAnsweredBy};
 ghost use Rattle.rly_daemon_reporter.specs.ReporterAtSeat.{HasWatchedAt};
 
 use crate::served_relay::{RelaySettings, Served, end_fault, ready_posts, report_start};
-use crate::spool_watch::SpoolWatch;
 use crate::wall_report_clock::WallReportClock;
 use rly_daemon_reporter::{Counters, ReportClock, Reported, TalliedLink, Tally, run_reported};
 use rly_disk::Disk;
@@ -33,6 +33,7 @@ use rly_link_auth::MeteredLink;
 use rly_link_udp::{SenderWaker, WallClock};
 use rly_plan::Plan;
 use rly_posts::NeighbourLink;
+use rly_spool_log::SpoolWatch;
 use rly_station::{ErrorLines, PlanKeys, ServeFault, neighbour_of};
 use std::alloc::{AllocError, Global};
 use std::fs::{File, Files};
@@ -260,6 +261,7 @@ pub(crate) fn tallied_start<
         → (result ≡ Err (fault.Refused refusal.BadGeometry cause.Plan)) × (errors.new ≡ errors.old) }
     ensures posts { IfOk result (λ started. map (duty_over link_below) started.0.items
         ≡ duties plan.now keys.entry (longest_message journal.now.state.params.payload) turns) }
+    ensures watch { IfOk result (λ started. started.2 ≡ first_log journal.now.state) }
 {
     let (posts, bell, watch) = ready_posts(rt, journal, plan, keys, turns, lines)?;
     let is_told = report_start(rt.alloc(), journal, plan, size, &posts, errors).is_ok();

@@ -8,12 +8,12 @@ ghost use Rattle.rly_plan.specs.Sound.{IsSoundPlan};
 ghost use Rattle.rly_plan_show.specs.CodelText.{codel_text};
 ghost use Rattle.rly_daemon_serve.specs.ServedRelay.{FitsPlan, HasRun, LacksRoom, end_fault};
 ghost use Rattle.rly_posts.specs.Duties.{duties, duty_at};
+ghost use Rattle.rly_spool_log.specs.SpoolLog.{first_log};
 ghost use Rattle.rly_station.specs.Keys.{AreKeysOf};
 ghost use Rattle.rly_station.specs.declared.file_fault.Cause.TheVariants as cause;
 ghost use Rattle.rly_station.specs.declared.serve_fault.ServeFault.TheVariants as fault;
 ghost use Rattle.rly_threads.specs.Relay.{IsRelayEnd};
 
-use crate::spool_watch::SpoolWatch;
 use rly_audit::live_items;
 use rly_core::{Params, Refusal};
 use rly_disk::Disk;
@@ -25,6 +25,7 @@ use rly_link_udp::{SenderWaker, WallClock};
 use rly_plan::Plan;
 use rly_plan_show::codel_text_of;
 use rly_posts::{NeighbourLink, UdpPost, posts_of};
+use rly_spool_log::SpoolWatch;
 use rly_station::{Cause, ErrorLines, Logger, PlanKeys, ServeFault, WorkerName};
 use rly_threads::{Relayed, run_relay};
 use std::alloc::{AllocError, Global};
@@ -175,6 +176,7 @@ pub(crate) fn ready_posts<'a, H: AllocGlobal + Files<File = File> + Clock + Net,
     ensures whole { OnOk result (journal.now.broken ≡ false) }
     ensures posts { IfOk result (λ posts. map duty_at posts.0.items
         ≡ duties plan.now keys.entry (longest_message journal.now.state.params.payload) turns) }
+    ensures watch { IfOk result (λ ready. ready.2 ≡ first_log journal.now.state) }
 {
     let longest = longest_served(journal, plan)?;
     let teller = Logger::new(Arc::try_clone(&lines)?);

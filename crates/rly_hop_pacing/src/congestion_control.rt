@@ -175,7 +175,7 @@ impl CongestionControl {
 
     /// Reports a Custody from the hop's station to the own one, of the number before the flight or of one in it; called after
     /// `on_covered`. The station is at work, so the wait is no longer doubled. If the wait that isn't doubled has passed, the
-    /// first number in flight goes out again. So however many come, they draw one Data for each `resend` at most.
+    /// first number in flight goes out again, and so isn't drawn by another one before that wait has passed once more.
     pub fn on_custody(&mut self, at: u64)
         ensures { self.new ≡ on_custody self.old at }
     {

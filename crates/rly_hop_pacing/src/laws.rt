@@ -56,7 +56,7 @@ pub fn law_turn_without_a_timeout()
 {}
 
 /// A Custody makes no number go out again but the first in flight, and that one not before `resend` has passed since it was last
-/// sent and since custody last covered more. So however many come, they draw one Data for each `resend` at most.
+/// sent and since custody last covered more.
 pub fn law_custody_draws_one()
     ensures others { (p : ControlView) (at t number : ℕ) → number - 1 ≢ p.flight.covered →
         is_missing (on_custody p at) t number ≡ is_missing p t number }

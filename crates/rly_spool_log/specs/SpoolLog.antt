@@ -1,12 +1,13 @@
 -- The log of a spool: which datagrams CoDel drops and which expire, and how full it is (docs/COMMANDS.md, "rly serve"). It
 -- sees the calls and the answers of each round.
 use Rattle.std.specs.Prelude.{ℕ, ◌+◌, ◌-◌, ◌*◌, ◌/◌, ◌^◌, ◌==◌, min, nat_le, nat_lt, Bool, true, false, not, ◌&&◌, ◌||◌, if◌then◌else◌}
-use Rattle.std.specs.Prelude.{List, [], ◌∷◌, ◌++◌, drop, length, set, slice_get, Option, Some, None}
+use Rattle.std.specs.Prelude.{List, [], ◌∷◌, ◌++◌, drop, length, map, set, slice_get, Option, Some, None}
 use Rattle.rly_core.specs.declared.ids.HopId.{HopId}
 use Rattle.rly_machine.specs.declared.call.Answer.{Answer}
 use Rattle.rly_machine.specs.declared.command.Ask.{Ask}
 use Rattle.rly_machine.specs.declared.command.Ask.TheVariants as ask
 use Rattle.rly_machine.specs.declared.command.Command.TheVariants as command
+use Rattle.rly_machine.specs.State.{State, live_line}
 use Rattle.rly_machine.specs.declared.reply.Reply.{Reply}
 use Rattle.rly_machine.specs.declared.reply.Reply.TheVariants as reply
 use Rattle.rly_plan.specs.ContactPlan.{destination_in}
@@ -75,6 +76,14 @@ origin_in (stored ∷ more) id now = if stored.id == id then Some (origin_of sto
 -- a hop with so many datagrams
 abbrev pub new_hop : ℕ → HopLog
 new_hop items = record { dropped = no_kind; expired = no_kind; items = items; is_crowding = false }
+
+-- the hops of a spool as its log knows them first, by their numbers: 0 is none
+abbrev pub first_hops : {P : Type 0} → State P → List HopLog
+first_hops s = new_hop 0 ∷ map (λ h. new_hop (length (live_line h))) s.hops
+
+-- the log of a spool that was opened
+abbrev pub first_log : {P : Type 0} → State P → SpoolView
+first_log s = new_log (record { items = s.params.items; bytes = s.params.bytes }) (first_hops s)
 
 -- the number of discards of a cause in the line of one at a moment, if it is logged
 abbrev pub discard_number : HopLog → Discard → ℕ → Option ℕ

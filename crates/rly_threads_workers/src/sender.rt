@@ -106,7 +106,7 @@ pub fn law_turns_keep_the_rate()
 /// state. A Custody of the number before the flight, which covers nothing more, draws nothing before `resend` has passed since
 /// the first number in flight was last sent and since custody last covered more: a turn that receives it asks and sends as it
 /// would without it, unless a Timeout is due in it. After that it draws that first number alone (`law_custody_draws_one` of
-/// `rly_hop_pacing`), so a flood of them draws one Data for each `resend` at most.
+/// `rly_hop_pacing`), which was then sent last in this turn.
 pub fn law_strays_draw_nothing()
     ensures nothing { (w : Handing) (most : ℕ) (p : Keeping) (given : Given) (before later : List (List ℕ)) (packet : List ℕ) →
         given.packets ≡ before ++ packet ∷ later → length given.packets ≤ 64 → length (before ++ later) ≤ 64 →
