@@ -126,3 +126,9 @@ class Rows(unittest.TestCase):
             self.assertTrue(part, "the output has ended")
             text += part
         return text
+
+    def log_line(self, run):
+        """The next line that such a run writes on standard error; none once it has ended."""
+        ready, _, _ = select.select([run.stderr], [], [], SECONDS)
+        self.assertTrue(ready, f"no line within {SECONDS} seconds")
+        return run.stderr.readline()

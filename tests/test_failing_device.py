@@ -31,7 +31,7 @@ class Failing(Rows):
         """A station on a new device whose call of this number fails; nothing if it doesn't begin."""
         self.rly("format", "device", "--force", *words_of({**SMALL, "peers": 2, "segments": 2}))
         run = self.start("serve", "device", "plan", env={**os.environ, "LD_PRELOAD": self.library, "FAIL_CALL": str(call)})
-        return run if run.stderr.readline().startswith(b"rly: serving station 7") else None
+        return run if self.log_line(run).startswith(b"rly: serving station 7") else None
 
     def first_after_opening(self):
         """The number of the first call after those without which a station doesn't begin."""

@@ -170,7 +170,7 @@ class Stations(test_folder_station.Folders):
         self.expect_files("out/out", [b"\0\x0cfirst"], LATEST)
         os.mkdir(self.path(f"in/new/{2:020}"))
         self.wake()
-        self.assertEqual(self.told(run), b"rly: peer 1: foreign name in the folder ignored\n")
+        self.assertEqual(self.log_line(run), b"rly: peer 1: foreign name in the folder ignored\n")
         self.assertEqual(self.names("in/new"), [f"{2:020}"])
 
     def test_a_missing_sub_folder_is_a_failed_call(self):
@@ -180,7 +180,7 @@ class Stations(test_folder_station.Folders):
         self.put(1, b"\0\x0cfirst")
         self.wake()
         wanted = b"rly: peer 1: folder call failed (1 so far): No such file or directory (os error 2)\n"
-        self.assertEqual(self.told(run), wanted)
+        self.assertEqual(self.log_line(run), wanted)
         self.assertEqual(self.read(f"in/new/{1:020}"), b"\0\x0cfirst")
         os.mkdir(self.path("in/sent"))
         self.expect_files("out/out", [b"\0\x0cfirst"], 2 * LATEST)

@@ -50,7 +50,7 @@ class Folders(Rows):
     def serve(self, *words, told=SERVED):
         """A relay that has told what it serves."""
         run = self.start("serve", "device", "plan", *words)
-        self.assertEqual(b"".join(run.stderr.readline() for _ in told.splitlines()), told)
+        self.assertEqual(b"".join(self.log_line(run) for _ in told.splitlines()), told)
         return run
 
     def put(self, number, payload, folder="in"):
@@ -81,12 +81,6 @@ class Folders(Rows):
         took = self.wait_for(lambda: self.names(folder) == wanted, seconds)
         self.assertEqual([self.read(f"{folder}/{name}") for name in wanted], payloads)
         return took
-
-    def told(self, run):
-        """The next line of a relay's log."""
-        ready, _, _ = select.select([run.stderr], [], [], SECONDS)
-        self.assertTrue(ready, "no line came")
-        return run.stderr.readline()
 
 
 class Served(Folders):
@@ -201,7 +195,7 @@ class Served(Folders):
         payloads = []
         for number in range(1, 13):
             run = self.start("serve", "device", "plan")
-            self.assertIn(b"rly: serving", run.stderr.readline())
+            self.assertIn(b"rly: serving", self.log_line(run))
             payloads.append(b"\0\x0c%d" % number)
             self.put(number, payloads[-1])
             self.wake()
@@ -237,7 +231,7 @@ class Served(Folders):
         for number in (1, 2):
             self.put(number, b"\0\x0c%d" % number)
         self.wake()
-        self.assertEqual(self.told(run), b"rly: hop 1: folder call failed (1 so far): No space left on device (os error 28)\n")
+        self.assertEqual(self.log_line(run), b"rly: hop 1: folder call failed (1 so far): No space left on device (os error 28)\n")
         os.remove(self.path("out/out/.room"))
         self.expect_files("out/out", [b"\0\x0c1", b"\0\x0c2"])
 
@@ -259,8 +253,8 @@ class Watched(Folders):
         plan = PLAN.replace("[[hop]]", f"{self.SECOND}[[hop]]").replace('folder = "in"', first)
         self.write("plan", plan)
         run = self.start("serve", "device", "plan")
-        self.assertIn(b"rly: serving station 7", run.stderr.readline())
-        while b"CoDel" not in self.told(run):
+        self.assertIn(b"rly: serving station 7", self.log_line(run))
+        while b"CoDel" not in self.log_line(run):
             pass
         # (the first look, a second after the start, wakes all)
         time.sleep(2.5)
@@ -298,7 +292,7 @@ class Watched(Folders):
         self.write("plan", PLAN.replace('"out"\n', '"out"\nmost = 2\n'))
         self.rly("format", "device", "--force", "--hops=1", "--peers=1", "--items=64", "--bytes=65536")
         run = self.start("serve", "device", "plan")
-        self.assertIn(b"rly: serving station 7", run.stderr.readline())
+        self.assertIn(b"rly: serving station 7", self.log_line(run))
         for number in range(1, 6):
             self.put(number, b"\0\x0c%d" % number)
         self.wake()
@@ -316,7 +310,7 @@ class Watched(Folders):
         then = os.stat(self.path("more/new")).st_mtime_ns - 10**10
         os.rename(self.path("more/new"), self.path("more/gone"))
         wanted = b"rly: peer 2: folder call failed (1 so far): No such file or directory (os error 2)\n"
-        self.assertEqual(self.told(run), wanted)
+        self.assertEqual(self.log_line(run), wanted)
         self.put(1, b"\0\x0cback", "in")
         self.wait_for(lambda: len(self.names("out/out")) == 1, WATCHED)
         hidden = self.write("more/.own", b"\0\x0cmore")
@@ -410,7 +404,7 @@ class Warned(Folders):
         run = self.serve()
         self.write("in/new/note.txt", "")
         self.wake()
-        self.assertEqual(self.told(run), b"rly: peer 1: foreign name in the folder ignored\n")
+        self.assertEqual(self.log_line(run), b"rly: peer 1: foreign name in the folder ignored\n")
         self.write("in/new/again.txt", "")
         self.put(1, b"\0\x0cgood")
         self.expect_files("out/out", [b"\0\x0cgood"], LATEST)
@@ -423,7 +417,7 @@ class Warned(Folders):
             self.write(f"in/sent/{number:020}", b"\0\x0c%d" % number)
         run = self.serve()
         wanted = b"rly: peer 1: sent has 5 to 6, not from 0: mv -n sent/* new\n"
-        self.assertEqual(self.told(run), wanted)
+        self.assertEqual(self.log_line(run), wanted)
         self.put(7, b"\0\x0c7")
         self.wake()
         time.sleep(0.3)
@@ -438,7 +432,7 @@ class Warned(Folders):
     def test_a_plan_without_routes_gives_nothing(self):
         self.write("plan", PLAN[: PLAN.index("[[route]]")])
         run = self.serve()
-        self.assertEqual(self.told(run), b"rly: peer 1: last number refused (2)\n")
+        self.assertEqual(self.log_line(run), b"rly: peer 1: last number refused (2)\n")
 
     def test_a_failed_call_is_told(self):
         """A sub-folder that is gone while the station serves is told of, and found again once it is back."""
@@ -446,7 +440,7 @@ class Warned(Folders):
         os.rename(self.path("in/new"), self.path("in/gone"))
         self.wake()
         wanted = b"rly: peer 1: folder call failed (1 so far): No such file or directory (os error 2)\n"
-        self.assertEqual(self.told(run), wanted)
+        self.assertEqual(self.log_line(run), wanted)
         os.rename(self.path("in/gone"), self.path("in/new"))
         self.put(1, b"\0\x0cback")
         self.expect_files("out/out", [b"\0\x0cback"], 2 * LATEST)

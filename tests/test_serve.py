@@ -280,7 +280,7 @@ class Pauses(Stations):
         words = ["--hops=1", "--peers=2", "--items=16", "--bytes=4096"]
         self.expect("format", "device", *words, output="formatted 320804\n")
         run = self.start("serve", "device", "plan", "--report=1", "--gather=1000")
-        self.assertIn(b"2 peers", run.stderr.readline())
+        self.assertIn(b"2 peers", self.log_line(run))
         for number in (1, 2):
             seconds, custodies = self.given_by_both(run, number)
             self.assertEqual(custodies, (custody(3, number), custody(4, number)))
@@ -309,7 +309,7 @@ class Counts(Stations):
         key = 'key = "link.key"\n'
         self.write("plan", PLAN.format(*self.ports).replace("[[hop]]", key + "[[hop]]").replace("contacts", key + "contacts"))
         run = self.start("serve", "device", "plan", "--report=1")
-        self.assertIn(b"rly: serving", run.stderr.readline())
+        self.assertIn(b"rly: serving", self.log_line(run))
         with socket.socket(socket.AF_INET, socket.SOCK_DGRAM) as end:
             for port, count in [(self.ports[0], 3), (self.ports[2], 2)]:
                 for _packet in range(count):

@@ -114,7 +114,7 @@ class Sleeping(Rows):
         count = len(self.peers)
         self.rly("format", "device", f"--hops={count}", f"--peers={count}", *options)
         run = self.start("serve", "device", "plan", *words, env={**os.environ, **(preload or {})}, **how)
-        self.assertIn(b"rly: serving station 7", run.stderr.readline())
+        self.assertIn(b"rly: serving station 7", self.log_line(run))
         return run
 
     def give(self, peer=0, hop=0):
