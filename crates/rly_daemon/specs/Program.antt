@@ -102,12 +102,12 @@ IsDone H (Play file batch) before behind left old new told_old told_new =
     HasPlayed batch left old new × (told_new ≡ told_old)
 IsDone H (Audit file made copy) before behind left old new told_old told_new =
     (behind ≡ before) × HasAudited made copy old new × (told_new ≡ told_old)
-IsDone H (Serve file plan turns report gather events) before behind left old new told_old told_new = (behind ≡ before)
+IsDone H (Serve file plan turns report gather events renumber) before behind left old new told_old told_new = (behind ≡ before)
     × HasServedWith turns report events old new told_new
 IsDone H Key before behind left old new told_old told_new =
     (behind ≡ before) × HasKey old new × (told_new ≡ told_old)
-IsDone H (Plan plan at device) before behind left old new told_old told_new =
-    (behind ≡ before) × HasShownPlan at (is_some device) old new told_old told_new
+IsDone H (Plan plan at device was) before behind left old new told_old told_new =
+    (behind ≡ before) × HasShownPlan at (is_some device) (is_some was) None old new told_old told_new
 IsDone H (Put folder lines destination limit wait) before behind left old new told_old told_new =
     HasPut H folder.now (put_form lines destination) (put_limit limit) left × (new ≡ old) × (told_new ≡ told_old)
 IsDone H (Get folder lines raw count follow) before behind left old new told_old told_new = (behind ≡ before)

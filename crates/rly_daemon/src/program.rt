@@ -147,17 +147,23 @@ where
             report,
             gather,
             events,
+            renumber,
         } => {
             let settings = RelaySettings {
                 turns,
                 gather: Duration::from_millis(gather),
             };
-            ProgramFault::of(run_serving(rt, file, plan, settings, report, events, writer, errors))
+            ProgramFault::of(run_serving(
+                rt, file, plan, renumber, settings, report, events, writer, errors,
+            ))
         }
         Settings::Key => ProgramFault::of(new_key(rt, writer)),
-        Settings::Plan { plan, at, device } => {
-            ProgramFault::of(run_plan(rt, plan, at, device, writer, errors))
-        }
+        Settings::Plan {
+            plan,
+            at,
+            device,
+            was,
+        } => ProgramFault::of(run_plan(rt, plan, at, device, was, writer, errors)),
         Settings::Put {
             folder,
             lines,

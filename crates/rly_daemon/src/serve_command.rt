@@ -10,7 +10,7 @@ use crate::counted_disk::CountedDisk;
 use crate::gate_tally::GateTally;
 use crate::program::Host;
 use rly_core::{HopId, PeerId, Refusal};
-use rly_daemon_commands::{CommandFault, FileDisk, open_journal, refusal_with_cause};
+use rly_daemon_commands::{CommandFault, FileDisk, open_journal, open_served, refusal_with_cause};
 use rly_daemon_events::{HopLines, Rests, SharedOutput};
 use rly_daemon_lines::TextFault;
 use rly_daemon_reporter::{Counters, ReportClock, Reported, ReporterEnd, Tally};
@@ -30,11 +30,13 @@ use std::io::Write;
 use std::sync::{Arc, OnceLock};
 
 /// Runs the relay of a plan, with a report at once and every `report` seconds, or without reports if that is 0, and
-/// with the events of its hops if they are asked for. The plan and its keys are read before the file is touched.
+/// with the events of its hops if they are asked for. The plan and its keys are read before the file is touched. A plan in
+/// which an id means another station than in the ids that are kept of the device is refused, unless `renumber` allows it.
 pub(crate) fn run_serving<H: Host, W: Write + Send, E: Write>(
     rt: &H,
     file: &str,
     path: &str,
+    renumber: bool,
     settings: RelaySettings,
     seconds: u64,
     events: bool,
@@ -49,11 +51,15 @@ where
 {
     let plan = read_plan(rt, path)?;
     if events {
-        watch_plan(rt, file, path, &plan, settings, seconds, writer, errors)
+        watch_plan(
+            rt, file, path, &plan, renumber, settings, seconds, writer, errors,
+        )
     } else if seconds == 0 {
-        serve_plan(rt, file, path, &plan, settings, errors)
+        serve_plan(rt, file, path, &plan, renumber, settings, errors)
     } else {
-        report_plan(rt, file, path, &plan, settings, seconds, writer, errors)
+        report_plan(
+            rt, file, path, &plan, renumber, settings, seconds, writer, errors,
+        )
     }
 }
 
@@ -63,6 +69,7 @@ fn serve_plan<H: Host, E: Write>(
     file: &str,
     path: &str,
     plan: &Plan,
+    renumber: bool,
     settings: RelaySettings,
     errors: &mut E,
 ) -> Result<(), CommandFault>
@@ -73,7 +80,7 @@ where
 {
     let keys = read_keys(rt, plan, path)?;
     let lines = shared_lines(rt)?;
-    let (journal, size) = open_file(rt, file, &lines)?;
+    let (journal, size) = open_file(rt, file, plan, renumber, &lines)?;
     match serve(rt, journal, plan, keys, settings, size, lines, errors) {
         Ok(served) => relay_ended(settings.turns, plan, served, errors),
         Err(failed) => Err(fault_of(failed)),
@@ -86,6 +93,7 @@ fn report_plan<H: Host, W: Write + Send, E: Write>(
     file: &str,
     path: &str,
     plan: &Plan,
+    renumber: bool,
     settings: RelaySettings,
     seconds: u64,
     writer: &mut W,
@@ -99,7 +107,7 @@ where
 {
     let keys = read_keys(rt, plan, path)?;
     let lines = shared_lines(rt)?;
-    let (journal, size, tally) = open_tallied(rt, file, plan, None, &lines)?;
+    let (journal, size, tally) = open_tallied(rt, file, plan, renumber, None, &lines)?;
     let stop_flag = OnceLock::new();
     let reports = Reports {
         seconds,
@@ -120,6 +128,7 @@ fn watch_plan<H: Host, W: Write + Send, E: Write>(
     file: &str,
     path: &str,
     plan: &Plan,
+    renumber: bool,
     settings: RelaySettings,
     seconds: u64,
     writer: &mut W,
@@ -133,7 +142,7 @@ where
     let keys = read_keys(rt, plan, path)?;
     let lines = shared_lines(rt)?;
     let (rests, hop_lines) = watch_of(rt.alloc(), plan)?;
-    let (journal, size, tally) = open_tallied(rt, file, plan, Some(&rests), &lines)?;
+    let (journal, size, tally) = open_tallied(rt, file, plan, renumber, Some(&rests), &lines)?;
     let stop_flag = OnceLock::new();
     let output = SharedOutput::new(writer);
     let reports = Reports {
@@ -346,15 +355,17 @@ fn report_end<E: Write>(turns: u64, errors: &mut E) -> Result<(), CommandFault>
     told.map_err(|_| CommandFault::Serve(ServeFault::Unreported))
 }
 
-/// Opens the device in a file, which logs its failed reads on the lines.
+/// Opens the device in a file to serve a plan on it, which logs its failed reads on the lines.
 fn open_disk<H: AllocGlobal + Files<File = File>>(
     rt: &H,
     file: &str,
+    plan: &Plan,
+    renumber: bool,
     lines: &Arc<ErrorLines, Global>,
 ) -> Result<FileDisk, CommandFault>
     ensures told { IfOk result (λ disk. AreReadsLogged disk.read_failures) }
 {
-    let disk = FileDisk::open(rt, file)?;
+    let disk = open_served(rt, file, plan, renumber)?;
     match Arc::try_clone(lines) {
         Ok(lines) => Ok(disk.with_warnings(lines)),
         Err(refused) => Err(CommandFault::Serve(refused.into())),
@@ -365,11 +376,13 @@ fn open_disk<H: AllocGlobal + Files<File = File>>(
 fn open_file<H: AllocGlobal + Files<File = File>>(
     rt: &H,
     file: &str,
+    plan: &Plan,
+    renumber: bool,
     lines: &Arc<ErrorLines, Global>,
 ) -> Result<(Journal<FileDisk>, u64), CommandFault>
     ensures whole { IfOk result (λ opened. opened.0.broken ≡ false) }
 {
-    let disk = open_disk(rt, file, lines)?;
+    let disk = open_disk(rt, file, plan, renumber, lines)?;
     let size = disk.size();
     let journal = open_journal(rt.alloc(), disk)?;
     Ok((journal, size))
@@ -381,13 +394,14 @@ fn open_tallied<H: AllocGlobal + Files<File = File>>(
     rt: &H,
     file: &str,
     plan: &Plan,
+    renumber: bool,
     rests: Option<&Arc<Rests, Global>>,
     lines: &Arc<ErrorLines, Global>,
 ) -> Result<(Journal<CountedDisk<FileDisk>>, u64, Arc<Tally, Global>), CommandFault>
     ensures whole { IfOk result (λ opened. opened.0.broken ≡ false) }
 {
     let tally = tally_of(rt.alloc(), plan, rests)?;
-    let (journal, size) = open_counted(rt, file, &tally, lines)?;
+    let (journal, size) = open_counted(rt, file, plan, renumber, &tally, lines)?;
     Ok((journal, size, tally))
 }
 
@@ -395,12 +409,14 @@ fn open_tallied<H: AllocGlobal + Files<File = File>>(
 fn open_counted<H: AllocGlobal + Files<File = File>>(
     rt: &H,
     file: &str,
+    plan: &Plan,
+    renumber: bool,
     tally: &Arc<Tally, Global>,
     lines: &Arc<ErrorLines, Global>,
 ) -> Result<(Journal<CountedDisk<FileDisk>>, u64), CommandFault>
     ensures whole { IfOk result (λ opened. opened.0.broken ≡ false) }
 {
-    let disk = open_disk(rt, file, lines)?;
+    let disk = open_disk(rt, file, plan, renumber, lines)?;
     let size = disk.size();
     let disk = with_gate_tally(disk, tally)?;
     match Journal::open(rt.alloc(), disk) {

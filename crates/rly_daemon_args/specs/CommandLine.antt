@@ -106,18 +106,18 @@ audit_app = with_rule (with_rule (with_rule (new_app (codes "audit")) (path_rule
     (flag_rule (codes "made"))) (flag_rule (codes "copy"))
 
 unfoldable pub serve_app : App
-serve_app = with_rule (with_rule (with_rule (with_rule (with_rule (with_rule (new_app (codes "serve"))
+serve_app = with_rule (with_rule (with_rule (with_rule (with_rule (with_rule (with_rule (new_app (codes "serve"))
     (path_rule (codes "file"))) (path_rule (codes "plan")))
     (option_rule (codes "turns") (codes "0")))
     (option_rule (codes "report") (codes "0")))
-    gather_rule) (flag_rule (codes "events"))
+    gather_rule) (flag_rule (codes "events"))) (flag_rule (codes "renumber"))
 
 unfoldable pub key_app : App
 key_app = new_app (codes "key")
 
 unfoldable pub plan_app : App
-plan_app = with_rule (with_rule (with_rule (new_app (codes "plan")) (path_rule (codes "plan"))) at_rule)
-    (file_rule (codes "device"))
+plan_app = with_rule (with_rule (with_rule (with_rule (new_app (codes "plan")) (path_rule (codes "plan"))) at_rule)
+    (file_rule (codes "device"))) (file_rule (codes "was"))
 
 unfoldable pub put_app : App
 put_app = with_rule (with_rule (with_rule (with_rule (with_rule (new_app (codes "put")) (path_rule (codes "folder")))
@@ -219,18 +219,20 @@ IsSettings (Some (command, rows)) (Audit file made copy) = (command ≡ codes "a
     × (file.now ≡ path_in (codes "file") rows)
     × HasFlag rows (codes "made") made
     × HasFlag rows (codes "copy") copy
-IsSettings (Some (command, rows)) (Serve file plan turns report gather events) = (command ≡ codes "serve")
+IsSettings (Some (command, rows)) (Serve file plan turns report gather events renumber) = (command ≡ codes "serve")
     × (file.now ≡ path_in (codes "file") rows)
     × (plan.now ≡ path_in (codes "plan") rows)
     × HasNumber rows (codes "turns") 0 turns
     × HasNumber rows (codes "report") 0 report
     × HasNumber rows (codes "gather") 0 gather
     × HasFlag rows (codes "events") events
+    × HasFlag rows (codes "renumber") renumber
 IsSettings (Some (command, rows)) Key = command ≡ codes "key"
-IsSettings (Some (command, rows)) (Plan plan at device) = (command ≡ codes "plan")
+IsSettings (Some (command, rows)) (Plan plan at device was) = (command ≡ codes "plan")
     × (plan.now ≡ path_in (codes "plan") rows)
     × ReadsNumber (one_of (codes "at") rows) at
     × (option_map (λ s. s.now) device ≡ first_of (codes "device") rows)
+    × (option_map (λ s. s.now) was ≡ first_of (codes "was") rows)
 IsSettings (Some (command, rows)) (Put folder lines destination limit wait) = (command ≡ codes "put")
     × (folder.now ≡ path_in (codes "folder") rows)
     × HasFlag rows (codes "lines") lines

@@ -90,6 +90,7 @@ fn settings_of<'a>(matches: &ArgMatches<'a>) -> Option<Settings<'a>>
             plan: path_of(options, "plan"),
             at: given_number(options, "at"),
             device: given_path(options, "device"),
+            was: given_path(options, "was"),
         });
     }
     if let Some(settings) = folder_settings_of(matches) {
@@ -103,6 +104,7 @@ fn settings_of<'a>(matches: &ArgMatches<'a>) -> Option<Settings<'a>>
         report: number_of(options, "report", DEFAULT_REPORT),
         gather: number_of(options, "gather", DEFAULT_GATHER),
         events: has_flag(options, "events"),
+        renumber: has_flag(options, "renumber"),
     })
 }
 

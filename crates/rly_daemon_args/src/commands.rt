@@ -243,7 +243,13 @@ fn serve<'a>(alloc: Global) -> Result<Command<'a>, AllocError>
         "events",
         "Writes a line on standard output when a hop opens, closes, or has nothing left to send",
     );
-    with_arg(with_gather, events)
+    let with_events = with_arg(with_gather, events);
+    let renumber = flag(
+        alloc,
+        "renumber",
+        "Serve a plan in which an id names another station than before; what waits for a hop goes to the other one",
+    );
+    with_arg(with_events, renumber)
 }
 
 fn key<'a>(alloc: Global) -> Command<'a>
@@ -268,7 +274,13 @@ fn plan<'a>(alloc: Global) -> Result<Command<'a>, AllocError>
         "device",
         "Say on standard error what CoDel of this device does at each hop with contacts",
     );
-    with_arg(with_at, device)
+    let with_device = with_arg(with_at, device);
+    let was = file_option(
+        alloc,
+        "was",
+        "Print what differs from the plan in FILE in place of the plan; status 1 if an id names another station",
+    );
+    with_arg(with_device, was)
 }
 
 fn put<'a>(alloc: Global) -> Result<Command<'a>, AllocError>

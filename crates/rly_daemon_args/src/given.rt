@@ -56,6 +56,8 @@ pub enum Settings<'a> {
         gather: u64,
         /// Whether the events of its hops are written.
         events: bool,
+        /// Whether an id may name another station than the one that is kept of the device.
+        renumber: bool,
     },
     /// A new key of a link.
     Key,
@@ -67,6 +69,8 @@ pub enum Settings<'a> {
         at: Option<u64>,
         /// The path of the device whose CoDel is told for each hop: `None` for none.
         device: Option<&'a str>,
+        /// The path of another plan's file, from which the differences are printed in place of the plan: `None` for none.
+        was: Option<&'a str>,
     },
     /// Standard input is put into the folder of a peer.
     Put {

@@ -1,7 +1,9 @@
+use crate::ids_fault::IdsFileFault;
 use crate::new_key::NewKeyFault;
 use rly_core::Refusal;
 use rly_daemon_lines::TextFault;
 use rly_link::Worker;
+use rly_plan_changes::OtherStation;
 use rly_station::{Cause, FileFault, ServeFault};
 use thiserror::Error;
 
@@ -20,6 +22,15 @@ pub enum CommandFault {
     /// No new key was written.
     #[error("{0}")]
     NewKey(NewKeyFault),
+    /// The plan from which the differences are to be printed can't be read, or is none.
+    #[error("{0}\nrly: plan: that is the one of --was")]
+    Was(ServeFault),
+    /// An id of both plans names another station in the second.
+    #[error("rly: plan: {0}")]
+    Renumbered(OtherStation),
+    /// The ids of the device aren't kept, or mean other stations than those of the plan.
+    #[error("{0}")]
+    Ids(IdsFileFault),
     /// A device to be formatted has this many live datagrams.
     #[error("refused 23 device\nrly: device: live datagrams: {0}; --force formats it, and they are lost")]
     Live(u64),

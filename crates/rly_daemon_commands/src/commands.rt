@@ -21,6 +21,7 @@ use crate::command_fault::CommandFault;
 use crate::file_disk::FileDisk;
 use crate::format_check::{UseFault, check_unused};
 use crate::geometry::{device_size, geometry_of};
+use crate::ids_file::forget_ids;
 use rly_audit::{AuditFault, audit, audit_made};
 use rly_core::{Geometry, Params, Refusal};
 use rly_daemon_lines::{TextFault, play, sim};
@@ -75,6 +76,7 @@ pub fn run_format<H: AllocGlobal + Files<File = File>, W: Write>(
 {
     let geometry = requested_geometry(params, segments, length)?;
     let size = format_file(rt, file, &geometry, force, allocate)?;
+    forget_ids(rt, file);
     print_size(size, writer)?;
     Ok(())
 }

@@ -1,9 +1,10 @@
 ghost use Rattle.std.specs.Prelude.{◌≡◌, ◌≤◌, ◌+◌, ◌↔◌, None, IfOk, OnOk, false, is_some, true};
 
 use crate::allocation;
+use crate::watched_file::WatchedFile;
 use rly_disk::{Counts, Disk, DiskFault};
 use rly_station::{ErrorLines, FailedCalls, FileFault, SystemWord};
-use std::alloc::Global;
+use std::alloc::{AllocError, Global};
 use std::fs::{File, FileType, Files, OpenOptions, TryLockError};
 use std::io::{ErrorKind, Seek, SeekFrom};
 use std::os::fd::AsRawFd;
@@ -28,6 +29,8 @@ pub struct FileDisk {
     word: Option<SystemWord>,
     /// Its failed reads, if they are logged.
     read_failures: Option<FailedCalls>,
+    /// The look at the file, if it is looked after.
+    watched: Option<WatchedFile>,
     ghost word_is_told: { (word ≡ None) ↔ (counts.failures ≡ 0) },
 }
 
@@ -79,6 +82,35 @@ impl FileDisk {
     {
         self.read_failures = Some(FailedCalls::of_reads(lines));
         self
+    }
+
+    /// The same disk, whose file is looked after: from now on each write and each sync fails once the file isn't under its
+    /// path any more, or is shorter than it was. `Err`: out of memory.
+    pub(crate) fn with_watch(mut self, alloc: Global) -> Result<FileDisk, AllocError>
+        ensures same { IfOk result (λ disk. disk ≡ record self { watched = disk.watched }) }
+    {
+        self.watched = Some(WatchedFile::of(alloc, &self.file)?);
+        Ok(self)
+    }
+
+    /// Looks after the file, if it is to be looked after.
+    fn look(&self) -> io::Result<()> {
+        match &self.watched {
+            Some(watched) => watched.look(&self.file, self.size),
+            None => Ok(()),
+        }
+    }
+
+    /// Writes all bytes at an address, unless the file was lost before.
+    fn put(&self, place: u64, bytes: &[u8]) -> io::Result<()> {
+        self.look()?;
+        self.file.write_all_at(bytes, place)
+    }
+
+    /// Syncs the file. A file that was lost up to then isn't durable.
+    fn settle(&self) -> io::Result<()> {
+        self.file.sync_data()?;
+        self.look()
     }
 
     /// Extends the file to the size of a device, durably, if it is shorter.
@@ -155,7 +187,7 @@ fn create_file<H: Files<File = File>>(files: &H, path: &str) -> Result<FileDisk,
 }
 
 /// The folder that a path's file is in.
-fn folder_of(path: &str) -> &str {
+pub(crate) fn folder_of(path: &str) -> &str {
     match path.rsplit_once('/') {
         None => ".",
         Some(("", _)) => "/",
@@ -192,6 +224,7 @@ fn disk_in(file: File, lock: Option<FileLock>) -> Result<FileDisk, FileFault>
         counts: Counts::new(),
         word: None,
         read_failures: None,
+        watched: None,
     })
 }
 
@@ -262,7 +295,7 @@ impl Disk for FileDisk {
         if self.counts.is_spent() {
             return Err(DiskFault);
         }
-        let outcome = self.file.write_all_at(bytes, place);
+        let outcome = self.put(place, bytes);
         let mut counts = self.counts;
         counts.count_write(outcome.is_err());
         self.note(counts, &outcome);
@@ -276,7 +309,7 @@ impl Disk for FileDisk {
         if self.counts.is_spent() {
             return Err(DiskFault);
         }
-        let outcome = self.file.sync_data();
+        let outcome = self.settle();
         let mut counts = self.counts;
         counts.count_sync(outcome.is_err());
         self.note(counts, &outcome);

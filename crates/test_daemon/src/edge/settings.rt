@@ -66,6 +66,7 @@ const DEFAULTS: [Given; 9] = [
             report: 0,
             gather: 0,
             events: false,
+            renumber: false,
         },
     ),
     (&["rly", "key"], Settings::Key),
@@ -75,6 +76,7 @@ const DEFAULTS: [Given; 9] = [
             plan: "plan.toml",
             at: None,
             device: None,
+            was: None,
         },
     ),
     (
@@ -202,6 +204,7 @@ const GIVEN: [Given; 10] = [
             "--gather",
             "60000",
             "--events",
+            "--renumber",
             "plan.toml",
         ],
         Settings::Serve {
@@ -211,6 +214,7 @@ const GIVEN: [Given; 10] = [
             report: 15,
             gather: 60_000,
             events: true,
+            renumber: true,
         },
     ),
     (
@@ -218,6 +222,8 @@ const GIVEN: [Given; 10] = [
             "rly",
             "plan",
             "plan.toml",
+            "--was",
+            "old.toml",
             "--device=spool",
             "--at",
             "4503599627370495",
@@ -226,6 +232,7 @@ const GIVEN: [Given; 10] = [
             plan: "plan.toml",
             at: Some(4_503_599_627_370_495),
             device: Some("spool"),
+            was: Some("old.toml"),
         },
     ),
     (
@@ -356,6 +363,7 @@ fn expect_serve(rt: &(impl Abort + AllocGlobal), text: &str, number: u64) {
         report: number,
         gather: 0,
         events: false,
+        renumber: false,
     };
     expect_settings(rt, words.as_slice(), &wanted);
 }
@@ -385,6 +393,7 @@ fn expect_path(rt: &(impl Abort + AllocGlobal), path: &str) {
         report: 0,
         gather: 0,
         events: false,
+        renumber: false,
     };
     expect_settings(rt, ["rly", "serve", "spool", path].as_slice(), &served);
 }

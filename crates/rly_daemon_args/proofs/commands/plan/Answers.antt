@@ -5,4 +5,5 @@ pub returns : goal.returns
 unfolding plan_app
 returns c =
     let at = c.with_arg-with_at.ensures _ _ (c.with_path-with_file.ensures _ c.command_with_help-bare.ensures) c.at.ensures.rule in
-    c.with_arg.ensures _ _ at c.file_option-device.ensures.rule
+    let device = c.with_arg-with_device.ensures _ _ at c.file_option-device.ensures.rule in
+    c.with_arg.ensures _ _ device c.file_option-was.ensures.rule

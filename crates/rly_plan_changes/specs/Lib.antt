@@ -1,0 +1,2 @@
+pub mod PlanIds
+pub mod PlanChanges
