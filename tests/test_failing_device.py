@@ -26,10 +26,15 @@ class Failing(Rows):
         self.listen = ("127.0.0.1", listen)
         plan = PLAN.format(listen, self.peer.getsockname()[1], *others[:2])
         self.write("plan", plan.replace("[[hop]]", SECOND_PEER.format(*others[2:]) + "[[hop]]"))
+        self.rly("format", "device", *words_of({**SMALL, "peers": 2, "segments": 2}))
+        self.rly("serve", "device", "plan", "--turns=1")
+        self.ids = self.read("device.ids")
 
     def serve(self, call):
         """A station on a new device whose call of this number fails; nothing if it doesn't begin."""
         self.rly("format", "device", "--force", *words_of({**SMALL, "peers": 2, "segments": 2}))
+        # The ids are there, so the calls are the device's alone.
+        self.write("device.ids", self.ids)
         run = self.start("serve", "device", "plan", env={**os.environ, "LD_PRELOAD": self.library, "FAIL_CALL": str(call)})
         return run if self.log_line(run).startswith(b"rly: serving station 7") else None
 
