@@ -2,6 +2,7 @@
 import os
 import re
 import select
+import shutil
 import subprocess
 import tempfile
 import unittest
@@ -108,6 +109,14 @@ class Rows(unittest.TestCase):
                 [RLY, *words], stdin=subprocess.DEVNULL, stdout=full, stderr=subprocess.PIPE, timeout=SECONDS, cwd=self.folder
             )
         self.assertEqual((run.returncode, run.stderr), (1, b"rly: output failed\n"), f"rly {' '.join(words)}")
+
+    def preload(self, **how):
+        """The environment of a run with `preloaded.c` in front of the C library, which is told this."""
+        if not shutil.which("cc"):
+            self.skipTest("there is no C compiler")
+        library = self.path("preloaded.so")
+        subprocess.run(["cc", "-O1", "-shared", "-fPIC", "-o", library, f"{TOP}/tests/preloaded.c", "-ldl"], check=True)
+        return {**os.environ, "LD_PRELOAD": library, **{name: str(value) for name, value in how.items()}}
 
     def start(self, *words, **how):
         """A run that goes on beside the test, until its end at most. `how` are words of `Popen`."""

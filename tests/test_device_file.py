@@ -67,6 +67,20 @@ class Losses(Folders):
         taken = re.search(rb"peer 1 last (\d+)", self.rly("audit", "device.old").stdout)
         self.assertGreaterEqual(int(taken[1]), 999 - left)
 
+    def test_a_name_may_end_as_the_system_tells_of_a_removed_file(self):
+        self.make_small("device (deleted)")
+        run = self.start("serve", "device (deleted)", "plan")
+        self.assertEqual(b"".join(self.log_line(run) for _ in SERVED.splitlines()), SERVED)
+        self.put(1, b"\0\14first")
+        self.wake()
+        self.wait_for(lambda: self.names("out/out") == ["00000000000000000001"])
+        os.remove(self.path("device (deleted)"))
+        self.put(2, b"\0\14second")
+        self.wake()
+        self.wait_for(lambda: run.poll() is not None, SECONDS)
+        told = b"refused 11 broken\nrly: device: device (deleted): removed or replaced while it was served\n"
+        self.assertTrue(run.stderr.read().endswith(told))
+
     def test_a_device_that_grows_is_none_that_is_lost(self):
         run = self.lose(lambda path: os.truncate(path, os.path.getsize(path) + 4096))
         self.put(2, b"\0\14second")

@@ -72,10 +72,15 @@ class Ids(Rows):
         self.assertEqual([it for it in os.listdir(self.folder) if it.startswith(".")], [])
 
     def test_the_same_plan_writes_nothing(self):
+        def written():
+            """Which file it is, and when it was written or renamed. (That it was read is no writing.)"""
+            found = os.stat(self.path("device.ids"))
+            return found.st_ino, found.st_mtime_ns, found.st_ctime_ns
+
         self.expect_served()
-        before = os.stat(self.path("device.ids"))
+        before = written()
         self.expect_served()
-        self.assertEqual(os.stat(self.path("device.ids")), before)
+        self.assertEqual(written(), before)
 
     def test_an_id_that_means_another_station(self):
         self.expect_served()

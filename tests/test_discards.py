@@ -13,7 +13,7 @@ COUNT = 600
 # How many bytes a second go out to the hop: 600 of these payloads take more than CoDel's interval by far.
 RATE = 12_000
 # Seconds until the contact opens, in which all are stored.
-BEFORE = 8
+BEFORE = 15
 # The spool has room for a few more than are put: they are 93 % of it.
 ITEMS = 640
 

@@ -89,3 +89,25 @@ class Failing(Rows):
         opening = self.first_after_opening()
         self.last = opening + 3
         self.assertEqual([self.broken(call) for call in range(1, opening + 6)], [False] * (opening - 1) + [True] * 4 + [False] * 2)
+
+
+class Audited(Rows):
+    """A device of which one read fails."""
+
+    def test_each_read_of_an_audit(self):
+        """The read that fails is told, and nothing of a report; the device then reads as before. It has a group, so it is opened by
+        eight reads and more, of which the last one finds the gate behind it closed."""
+        self.rly("format", "device", *words_of({**SMALL, "segments": 2}))
+        self.expect("play", "device", input="take 1 1 1 0 41\n", output="taken 1 1\n")
+        device, told = self.read("device"), b"refused 23 device\nrly: device: device: Input/output error (os error 5)\n"
+        failed = 0
+        for call in range(1, 99):
+            run = self.start("audit", "device", env=self.preload(FAIL_READ=call))
+            output, errors = run.communicate(timeout=SECONDS)
+            if run.returncode == 0:
+                break
+            self.assertEqual((run.returncode, output, errors), (1, b"", told))
+            failed = call
+        self.assertEqual((output.decode(), errors), (ONE_TAKEN, b""))
+        self.assertGreaterEqual(failed, 9)
+        self.assertTrue(self.read("device") == device)

@@ -160,6 +160,27 @@ class Served(Folders):
         wanted = [f"{1:020}.{reason}" for reason in ("no-route", "too-long", "too-short")]
         self.assertEqual(self.names("in/refused"), wanted)
 
+    def test_a_refused_file_replaces_no_other(self):
+        """It gets a number that no refused file has for that reason."""
+        self.rly("serve", "device", "plan", "--turns=1")
+        there = [self.write(f"in/refused/{number:020}.no-route", b"other") for number in (1, 5)]
+        self.serve()
+        self.put(7, b"\0\x0d-")
+        self.wait_for(lambda: len(self.names("in/refused")) == 3, LATEST)
+        self.assertEqual(self.names("in/refused")[-1], f"{6:020}.no-route")
+        self.assertEqual([self.read(it.removeprefix(f"{self.folder}/")) for it in there], [b"other"] * 2)
+
+    def test_the_longest_file_with_a_destination(self):
+        """8,190 bytes and the two of its destination are the longest payload. A byte more goes aside."""
+        self.write("plan", PLAN.replace('"in"\n', '"in"\ndestination = 12\n'))
+        self.rly("format", "device", "--force", "--hops=1", "--peers=1", "--items=16", "--bytes=65536", "--payload=8192")
+        run = self.start("serve", "device", "plan")
+        self.assertIn(b"rly: serving station 7", self.log_line(run))
+        for number, length in enumerate((8_191, 8_190), 1):
+            self.put(number, b"x" * length)
+        self.expect_files("out/out", [b"\0\x0c" + b"x" * 8_190], LATEST)
+        self.assertEqual(self.names("in/refused"), [f"{1:020}.too-long"])
+
     def test_the_rest_takes_what_has_no_route(self):
         """With a route of `"rest"` files without a route and those too short for a destination come out, as from a dead-letter box.
         What is too long goes aside."""

@@ -1,5 +1,5 @@
 """`rly key`, and the files of links' keys."""
-from program import KEY, Rows, plan_of
+from program import KEY, SECONDS, Rows, plan_of
 
 # Another key.
 OTHER = "f0e1d2c3b4a5968778695a4b3c2d1e0ff0e1d2c3b4a5968778695a4b3c2d1e0f\n"
@@ -11,11 +11,27 @@ SHARED = [(0o640, "40"), (0o604, "4"), (0o620, "20"), (0o601, "1"), (0o644, "44"
 # What is told of a file that isn't of a key's form.
 FORM = "not one or two lines of 64 hex digits; `rly key` makes one"
 
+# Texts that are no keys; a second line is a whole key.
+NO_KEYS = [
+    "",
+    "\n",
+    "00",
+    "00\n",
+    KEY[:-2] + "\n",
+    KEY.strip() + "0\n",
+    KEY[:-2] + "g\n",
+    KEY.strip() + "\r\n",
+    KEY + "\n",
+    " " + KEY.strip(),
+    KEY + "00\n",
+    KEY.strip() + " " + OTHER,
+    KEY + OTHER[:-2] + "z\n",
+    KEY + OTHER + "\n",
+]
+
 # Files that hold no key for a link: their text, their permissions, and what is told of them.
 FAULTS = [
-    ("", 0o600, FORM),
-    ("00\n", 0o600, FORM),
-    (KEY + OTHER + "\n", 0o600, FORM),
+    *((text, 0o600, FORM) for text in NO_KEYS),
     (KEY, 0o640, "permissions 40 for group or others; must be 0: chmod 600 {key}"),
     (KEY, 0o604, "permissions 4 for group or others; must be 0: chmod 600 {key}"),
 ]
@@ -53,6 +69,17 @@ class Keys(Rows):
         self.assertNotEqual(first.stdout, second.stdout)
         self.write("hop.key", first.stdout)
         self.expect_served(self.write_plan("hop.key"), NOWHERE)
+
+    def test_a_key_is_the_system_s_randomness(self):
+        """Its digits are those of the 32 bytes that the system gives, and where it gives none there is no key."""
+        for kind, wanted in [
+            ("count", (0, KEY, "")),
+            ("none", (1, "", "rly: key failed\nrly: randomness: Input/output error (os error 5)\n")),
+        ]:
+            with self.subTest(kind):
+                run = self.start("key", env=self.preload(RANDOM_KEY=kind))
+                output, errors = run.communicate(timeout=SECONDS)
+                self.assertEqual((run.returncode, output.decode(), errors.decode()), wanted)
 
     def test_a_relay_needs_its_keys(self):
         """It isn't started where a key's file isn't there, isn't of a key's form, or isn't its owner's alone. What is told names

@@ -1,4 +1,7 @@
 """Rows of `rly play` on devices in files, in rounds of several lengths, and with the program stopped between any two lines."""
+import os
+import tempfile
+
 from program import Rows, parted
 from test_sim import LONGEST, SIX_TAKES, TEN_TAKES
 
@@ -75,3 +78,36 @@ class Plays(Rows):
         """Of two segments, each has 534,492 bytes."""
         self.expect("format", "long.rly", "--segments=2", *LONG_SMALL, output=f"formatted {64 + 2 * 534_492}\n")
         self.plays(LONG_SMALL, *parted(LONGEST))
+
+
+class LongRun(Rows):
+    """2,500 datagrams of 200 bytes, each of which is stored, picked, fetched and released: 15,000 lines, for which many segments
+    are opened. The device stands in memory, since a slow disk takes minutes for that many syncs."""
+
+    def setUp(self):
+        super().setUp()
+        memory = "/dev/shm" if os.path.isdir("/dev/shm") else None
+        self.folder = self.enterContext(tempfile.TemporaryDirectory(prefix="rly-tests-", dir=memory))
+        lines = []
+        for number in range(1, 2_501):
+            payload = "".join(f"{(number + at) % 256:02x}" for at in range(200))
+            lines += [f"take 1 {number} 1 {number} {payload}", f"pick 1 {number + 7}", f"fetch 1 {number}"]
+            lines += ["window 1", f"done 1 {number}", "show 1"]
+        self.lines = "".join(f"{line}\n" for line in lines)
+
+    def generation(self):
+        """The greatest generation of a segment, one more than were opened."""
+        image = self.read("device")
+        segments, length = int.from_bytes(image[17:19], "big"), int.from_bytes(image[19:23], "big")
+        places = range(64, 64 + segments * length, length)
+        return max(int.from_bytes(image[place + 1 : place + 9], "big") for place in places)
+
+    def test_a_long_run_opens_segments_and_answers_as_sim(self):
+        replies = self.rly("sim", *SMALL, input=self.lines).stdout
+        self.assertEqual(replies.count(b"\n"), 15_000)
+        self.assertNotIn(b"refused", replies)
+        for batch in (1, 7, 64):
+            with self.subTest(batch=batch):
+                self.expect("format", "device", "--segments=2", *SMALL, output="formatted 165880\n")
+                self.expect("play", "device", f"--batch={batch}", input=self.lines, output=replies)
+                self.assertTrue(100 < self.generation() - 1 < 1_000, self.generation())

@@ -404,10 +404,11 @@ class Gets(Folders):
         self.assertEqual(self.names("out"), ["1", "notes"])
 
     def test_a_file_of_no_station(self):
-        self.hand_out(b"\0\1a", b"x" * 65_537)
+        """One of 65,536 bytes is printed all the same."""
+        self.hand_out(b"\0\1a", b"x" * 65_536, b"x" * 65_537)
         told = FAILED + "spool: out: a file of more than 65536 bytes is no station's; remove it\n"
-        self.expect("get", "spool", output=b"a", errors=told, status=1)
-        self.assertEqual(self.names("out"), [f"{2:020}"])
+        self.expect("get", "spool", output=b"a" + b"x" * 65_534, errors=told, status=1)
+        self.assertEqual(self.names("out"), [f"{3:020}"])
 
     def test_refused_folders(self):
         self.write("file", "")

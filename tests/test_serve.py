@@ -1,13 +1,15 @@
 """`rly serve` over loopback and on files, and what it reports."""
 import contextlib
 import itertools
+import os
 import random
 import resource
 import socket
+import subprocess
 import threading
 import time
 
-from program import KEY, NO_DEVICE, SECONDS, Rows, plan_of
+from program import KEY, NO_DEVICE, RLY, SECONDS, Rows, plan_of
 
 # Station 7, with station 3 upstream and station 9 as the next hop, at four ports.
 PLAN = """station = 7
@@ -228,6 +230,19 @@ class Stations(Rows):
         self.assertEqual(run.returncode, 0, run.stderr)
         return run.stdout.decode(), run.stderr.decode()
 
+    def expect_served_without_a_reader(self, *options):
+        """A station whose output nobody reads takes a datagram, and says at its end that its output failed."""
+        self.make_small("device")
+        reading, writing = os.pipe()
+        os.close(reading)
+        words = ["serve", "device", "plan", "--turns=100", *options]
+        run = subprocess.Popen([RLY, *words], stdout=writing, stderr=subprocess.PIPE, cwd=self.folder)
+        os.close(writing)
+        with self.neighbour() as neighbour:
+            _output, errors = run.communicate(timeout=SECONDS)
+        self.assertEqual(neighbour.heard, CUSTODY)
+        self.assertEqual((run.returncode, errors.decode().splitlines()[-1]), (1, "rly: output failed"))
+
 
 class Serving(Stations):
     def expect_custody(self, data):
@@ -361,8 +376,11 @@ class Greatest(Stations):
     def test_the_greatest_relay_reports(self):
         """A reporter beside as many workers tells of each neighbour."""
         report = self.greatest_run("--report=100000")
-        self.assertIn("\nhop 64 ", report)
-        self.assertIn("\npeer 64 ", report)
+        words = [line.split()[:2] for line in report.splitlines()]
+        self.assertRegex(" ".join(words[0]), r"\Areport \d+\Z")
+        neighbours = [[kind, str(id)] for kind in ("hop", "peer") for id in range(1, 65)]
+        self.assertEqual(words[1:-1], neighbours)
+        self.assertTrue(report.endswith("\ndevice seq 0 rounds 0 segments 0\n"), report[-99:])
 
 
 class Reports(Stations):

@@ -16,6 +16,9 @@ PAYLOAD = "000c" + "41" * 62
 MINUTE = 60.0
 # A minute of silence ends with the Data that goes out next: its wait has doubled six times.
 SILENT = 90.0
+# A Data goes out ten times within eight waits that double. Where the first is 160 ms, as without `resend`, that takes 41 seconds;
+# where a slow machine makes the round trip long it takes more, and as long as this at most.
+TENTH, SOON = 240.0, 'resend = 20\n'
 
 
 def end_of(kind, station, listen, remote, more):
@@ -83,10 +86,10 @@ class SilentLinks(Rows):
         self.rly("format", name, "--hops=1", "--peers=1", "--items=16", "--bytes=65536", *options)
         self.rly("play", name, input=given)
 
-    def sender(self, *options, listen=None, remote=None, key="", payloads=(PAYLOAD,)):
+    def sender(self, *options, listen=None, remote=None, more="", payloads=(PAYLOAD,)):
         """A station with datagrams for the hop; its log."""
         own, other, spare, nobody = self.ports[:4]
-        text = end_of("peer", 3, spare, nobody, "") + end_of("hop", SECOND, listen or own, remote or other, key)
+        text = end_of("peer", 3, spare, nobody, "") + end_of("hop", SECOND, listen or own, remote or other, more)
         self.write("first.plan", f"station = {FIRST}\n{text}[[route]]\ndestination = 12\nhop = 1\n")
         given = [f"take 1 {number} 1 0 {payload}\n" for number, payload in enumerate(payloads, 1)]
         self.device("first", *options, given="".join(given))
@@ -102,8 +105,8 @@ class SilentLinks(Rows):
         log.wait_for("rly: serving", MINUTE)
         return log
 
-    def expect_line(self, log, front, wanted):
-        self.assertEqual(log.wait_for(front, MINUTE), wanted)
+    def expect_line(self, log, front, wanted, seconds=MINUTE):
+        self.assertEqual(log.wait_for(front, seconds), wanted)
 
     def test_a_destination_without_a_route(self):
         """Both ends say which Data, and that there is no route; the one without it says for which station."""
@@ -122,7 +125,7 @@ class SilentLinks(Rows):
     def test_a_key_at_the_sending_end_alone(self):
         second = self.receiver()
         self.write("link.key", KEY)
-        self.sender(key='key = "link.key"\n')
+        self.sender(more='key = "link.key"\n')
         self.expect_line(second, "rly: peer 1: packet", "rly: peer 1: packet 1 has 16 bytes too many: a key at the other end?")
 
     def test_a_key_at_the_receiving_end_alone(self):
@@ -157,9 +160,10 @@ class SilentLinks(Rows):
         cutter = Cutter((here, there), own, other, 1472)
         self.addCleanup(cutter.end)
         self.receiver("--payload=8192", remote=there)
-        first = self.sender("--payload=8192", remote=here, payloads=(PAYLOAD, "000c" + "42" * 1998, PAYLOAD, PAYLOAD))
+        payloads = (PAYLOAD, "000c" + "42" * 1998, PAYLOAD, PAYLOAD)
+        first = self.sender("--payload=8192", "--keep-all", remote=here, more=SOON, payloads=payloads)
         wanted = "Data 2 of 2000 bytes is lost, shorter ones arrive: do fragments pass? (1 so far)"
-        self.expect_line(first, "rly: hop 1: Data", f"rly: hop 1: {wanted}")
+        self.expect_line(first, "rly: hop 1: Data", f"rly: hop 1: {wanted}", TENTH)
 
     def test_a_neighbour_that_is_silent(self):
         """What is in flight is sent again and again, and nothing is heard for a minute."""

@@ -1,6 +1,6 @@
 """Rows of `rly sim`: command lines and their reply lines (docs/COMMANDS.md).
 
-They were given with the language, or worked out from the definitions (docs/DEFINITIONS.md). None is taken from the program.
+They were given with the language, or worked out from the definitions (docs/reference/DEFINITIONS.md). None is taken from the program.
 """
 from program import Rows, parted
 

@@ -1,4 +1,4 @@
-//! The limits, each with its unit (`docs/DEFINITIONS.md`, "Limits and refusals").
+//! The limits, each with its unit (`docs/reference/DEFINITIONS.md`, "Limits and refusals").
 
 ghost use Rattle.std.specs.Prelude.{◌≡◌, ◌-◌, ◌^◌};
 
@@ -68,7 +68,7 @@ pub const DEFAULT_RESEND: u64 = 160;
 /// Maximum length of a command line, in bytes without its newline.
 pub const MAX_LINE: u64 = 20_480;
 
-/// Each limit has the value of `docs/DEFINITIONS.md`. This law fixes the limits that no other contract cites.
+/// Each limit has the value of `docs/reference/DEFINITIONS.md`. This law fixes the limits that no other contract cites.
 pub fn law_limits()
     ensures hops { MAX_HOPS ≡ 64 }
     ensures peers { MAX_PEERS ≡ 64 }

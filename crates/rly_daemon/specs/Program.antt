@@ -102,7 +102,7 @@ IsDone H (Play file batch) before behind left old new told_old told_new =
     HasPlayed batch left old new × (told_new ≡ told_old)
 IsDone H (Audit file made copy) before behind left old new told_old told_new =
     (behind ≡ before) × HasAudited made copy old new × (told_new ≡ told_old)
-IsDone H (Serve file plan turns report gather events renumber) before behind left old new told_old told_new = (behind ≡ before)
+IsDone H (Serve file plan turns report gather events renumber patient) before behind left old new told_old told_new = (behind ≡ before)
     × HasServedWith turns report events old new told_new
 IsDone H Key before behind left old new told_old told_new =
     (behind ≡ before) × HasKey old new × (told_new ≡ told_old)

@@ -61,6 +61,8 @@ pub fn run<H: Host, S: AsStr, R: Read, W: Write + Send, E: Write>(
 ) -> u8
 where
     H::Dir: Send + Sync,
+    H::Stream: Send + Sync,
+    H::Listener: Send + Sync,
     ensures status { result ≤ 3 }
     // A bad command line is refused before anything is read, and writes only the reason.
     ensures bad { result ≡ 2 → (reader.new ≡ reader.old) × (writer.new ≡ writer.old) }
@@ -111,6 +113,8 @@ fn obey<H: Host, R: Read, W: Write + Send, E: Write>(
 ) -> Result<(), ProgramFault>
 where
     H::Dir: Send + Sync,
+    H::Stream: Send + Sync,
+    H::Listener: Send + Sync,
     ensures done { OnOk result
         (IsDone (Bor H) settings.entry reader.old reader.new (R.remaining reader.old) (W.contents writer.old)
         (W.contents writer.new)
@@ -148,10 +152,12 @@ where
             gather,
             events,
             renumber,
+            patient,
         } => {
             let settings = RelaySettings {
                 turns,
                 gather: Duration::from_millis(gather),
+                is_patient: patient,
             };
             ProgramFault::of(run_serving(
                 rt, file, plan, renumber, settings, report, events, writer, errors,

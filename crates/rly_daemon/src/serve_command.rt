@@ -45,6 +45,8 @@ pub(crate) fn run_serving<H: Host, W: Write + Send, E: Write>(
 ) -> Result<(), CommandFault>
 where
     H::Dir: Send + Sync,
+    H::Stream: Send + Sync,
+    H::Listener: Send + Sync,
     ensures served { OnOk result
         (HasServedWith settings.turns seconds events (W.contents writer.old) (W.contents writer.new)
         (E.contents errors.new)) }
@@ -75,6 +77,8 @@ fn serve_plan<H: Host, E: Write>(
 ) -> Result<(), CommandFault>
 where
     H::Dir: Send + Sync,
+    H::Stream: Send + Sync,
+    H::Listener: Send + Sync,
     requires { IsSoundPlan plan.now }
     ensures served { OnOk result (HasServed settings.turns (E.contents errors.new)) }
 {
@@ -101,6 +105,8 @@ fn report_plan<H: Host, W: Write + Send, E: Write>(
 ) -> Result<(), CommandFault>
 where
     H::Dir: Send + Sync,
+    H::Stream: Send + Sync,
+    H::Listener: Send + Sync,
     requires { IsSoundPlan plan.now }
     ensures served { OnOk result
         (HasServedReporting settings.turns (W.contents writer.old) (W.contents writer.new) (E.contents errors.new)) }
@@ -136,6 +142,8 @@ fn watch_plan<H: Host, W: Write + Send, E: Write>(
 ) -> Result<(), CommandFault>
 where
     H::Dir: Send + Sync,
+    H::Stream: Send + Sync,
+    H::Listener: Send + Sync,
     requires { IsSoundPlan plan.now }
     ensures served { OnOk result (HasServedReporting settings.turns None None (E.contents errors.new)) }
 {
@@ -365,7 +373,7 @@ fn open_disk<H: AllocGlobal + Files<File = File>>(
 ) -> Result<FileDisk, CommandFault>
     ensures told { IfOk result (λ disk. AreReadsLogged disk.read_failures) }
 {
-    let disk = open_served(rt, file, plan, renumber)?;
+    let disk = open_served(rt, file, plan, renumber, lines)?;
     match Arc::try_clone(lines) {
         Ok(lines) => Ok(disk.with_warnings(lines)),
         Err(refused) => Err(CommandFault::Serve(refused.into())),

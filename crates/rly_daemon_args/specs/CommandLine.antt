@@ -106,11 +106,11 @@ audit_app = with_rule (with_rule (with_rule (new_app (codes "audit")) (path_rule
     (flag_rule (codes "made"))) (flag_rule (codes "copy"))
 
 unfoldable pub serve_app : App
-serve_app = with_rule (with_rule (with_rule (with_rule (with_rule (with_rule (with_rule (new_app (codes "serve"))
+serve_app = with_rule (with_rule (with_rule (with_rule (with_rule (with_rule (with_rule (with_rule (new_app (codes "serve"))
     (path_rule (codes "file"))) (path_rule (codes "plan")))
     (option_rule (codes "turns") (codes "0")))
     (option_rule (codes "report") (codes "0")))
-    gather_rule) (flag_rule (codes "events"))) (flag_rule (codes "renumber"))
+    gather_rule) (flag_rule (codes "events"))) (flag_rule (codes "renumber"))) (flag_rule (codes "patient"))
 
 unfoldable pub key_app : App
 key_app = new_app (codes "key")
@@ -219,7 +219,7 @@ IsSettings (Some (command, rows)) (Audit file made copy) = (command ≡ codes "a
     × (file.now ≡ path_in (codes "file") rows)
     × HasFlag rows (codes "made") made
     × HasFlag rows (codes "copy") copy
-IsSettings (Some (command, rows)) (Serve file plan turns report gather events renumber) = (command ≡ codes "serve")
+IsSettings (Some (command, rows)) (Serve file plan turns report gather events renumber patient) = (command ≡ codes "serve")
     × (file.now ≡ path_in (codes "file") rows)
     × (plan.now ≡ path_in (codes "plan") rows)
     × HasNumber rows (codes "turns") 0 turns
@@ -227,6 +227,7 @@ IsSettings (Some (command, rows)) (Serve file plan turns report gather events re
     × HasNumber rows (codes "gather") 0 gather
     × HasFlag rows (codes "events") events
     × HasFlag rows (codes "renumber") renumber
+    × HasFlag rows (codes "patient") patient
 IsSettings (Some (command, rows)) Key = command ≡ codes "key"
 IsSettings (Some (command, rows)) (Plan plan at device was) = (command ≡ codes "plan")
     × (plan.now ≡ path_in (codes "plan") rows)

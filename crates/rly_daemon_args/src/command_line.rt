@@ -105,6 +105,7 @@ fn settings_of<'a>(matches: &ArgMatches<'a>) -> Option<Settings<'a>>
         gather: number_of(options, "gather", DEFAULT_GATHER),
         events: has_flag(options, "events"),
         renumber: has_flag(options, "renumber"),
+        patient: has_flag(options, "patient"),
     })
 }
 

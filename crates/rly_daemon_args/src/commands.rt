@@ -249,7 +249,13 @@ fn serve<'a>(alloc: Global) -> Result<Command<'a>, AllocError>
         "renumber",
         "Serve a plan in which an id names another station than before; what waits for a hop goes to the other one",
     );
-    with_arg(with_events, renumber)
+    let with_renumber = with_arg(with_events, renumber);
+    let patient = flag(
+        alloc,
+        "patient",
+        "Serve although a link can't be opened, and try it again after 5 s to 60 s; another link must be open",
+    );
+    with_arg(with_renumber, patient)
 }
 
 fn key<'a>(alloc: Global) -> Command<'a>

@@ -4,7 +4,7 @@ use std::alloc::AllocError;
 use thiserror::Error;
 
 /// The request of a command line. Numbers are as given: their limits aren't checked yet.
-#[derive(Clone, Copy, PartialEq, Eq)]
+#[derive(Clone, Copy)]
 pub enum Settings<'a> {
     /// Commands from standard input on a machine in memory.
     Sim {
@@ -58,6 +58,8 @@ pub enum Settings<'a> {
         events: bool,
         /// Whether an id may name another station than the one that is kept of the device.
         renumber: bool,
+        /// Whether a link that can't be opened is tried again while the others are served.
+        patient: bool,
     },
     /// A new key of a link.
     Key,

@@ -60,7 +60,7 @@ fn tell_holes(alloc: Global, file: &File, path: &str, size: u64) -> io::Result<(
 }
 
 /// Writes to standard error in one call, if there is room for it and a reader. The rest is dropped.
-pub(crate) fn write_at_once(line: &[u8]) {
+fn write_at_once(line: &[u8]) {
     let mut asked = [pollfd {
         fd: STANDARD_ERROR,
         events: POLLOUT,

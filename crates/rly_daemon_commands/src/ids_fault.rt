@@ -35,3 +35,21 @@ impl Display for IdsFileFault {
         )
     }
 }
+
+/// The file that should keep the ids of a device, and the system's error; displays as the line for standard error.
+#[derive(Debug, Drop)]
+pub(crate) struct UnkeptIds {
+    pub(crate) path: String,
+    pub(crate) word: SystemWord,
+}
+
+impl Display for UnkeptIds {
+    fn fmt<W: fmt::Write>(&self, f: &mut Formatter<W>) -> fmt::Result {
+        write!(
+            f,
+            "rly: ids: {}: not written, so a later change of what they mean isn't seen: {}",
+            self.path.as_str(),
+            self.word
+        )
+    }
+}

@@ -4,14 +4,13 @@ ghost use Rattle.std.specs.Prelude.{◌≡◌, IfOk, option_copied, option_map, 
 ghost use Rattle.rly_daemon_commands.specs.FileDisk.{file_state, is_locked};
 ghost use Rattle.rly_daemon_commands.specs.IdsFile.{HasKeptIds};
 
-use crate::allocation::write_at_once;
 use crate::command_fault::CommandFault;
 use crate::file_disk::{FileDisk, folder_of};
-use crate::ids_fault::{IdsFileFault, IdsWord};
+use crate::ids_fault::{IdsFileFault, IdsWord, UnkeptIds};
 use rly_plan::Plan;
 use rly_plan_changes::{IdsFault, PlanIds, ids_to_keep};
 use rly_segment::read_header;
-use rly_station::{ServeFault, SystemWord};
+use rly_station::{ErrorLines, ServeFault, SystemWord};
 use std::alloc::{AllocError, Global};
 use std::fs::{File, Files, OpenOptions};
 use std::io::{ErrorKind, Write};
@@ -20,19 +19,20 @@ use std::{fs, io};
 /// Opens the device in a file to serve a plan on it: locked, with its file looked after, and with the ids of the plan kept
 /// beside it. A plan in which an id means another station than in the ids that are kept is refused, unless `renumber` allows
 /// it. What is no device, and a device that has no room for the plan, keep no ids: both are refused later. Ids that can't be
-/// written are told on standard error, and the station serves: a full disk doesn't keep it from that.
+/// written are logged on the lines, and the station serves: a full disk doesn't keep it from that.
 pub fn open_served<H: AllocGlobal + Files<File = File>>(
     rt: &H,
     file: &str,
     plan: &Plan,
     renumber: bool,
+    lines: &ErrorLines,
 ) -> Result<FileDisk, CommandFault>
     ensures calls { IfOk result (λ disk. (file_state disk).calls ≡ 0) }
     ensures lock { IfOk result (λ disk. is_locked disk ≡ true) }
 {
     let disk = FileDisk::open(rt, file)?;
     if has_room(rt, file, plan) {
-        keep_ids(rt, file, plan, renumber)?;
+        keep_ids(rt, file, plan, renumber, lines)?;
     }
     match disk.with_watch(rt.alloc()) {
         Ok(disk) => Ok(disk),
@@ -60,6 +60,7 @@ fn keep_ids<H: AllocGlobal + Files<File = File>>(
     device: &str,
     plan: &Plan,
     renumber: bool,
+    lines: &ErrorLines,
 ) -> Result<Option<String>, CommandFault>
     ensures agreed { IfOk result (λ kept. HasKeptIds (option_map (λ s. string_bytes s) kept) plan.now renumber) }
 {
@@ -80,19 +81,10 @@ fn keep_ids<H: AllocGlobal + Files<File = File>>(
         Err(IdsFault::OutOfMemory) => return Err(CommandFault::Serve(AllocError.into())),
     };
     if let Err(error) = write_if_new(rt, path.as_str(), text_of(&kept), &ids) {
-        tell_unwritten(rt.alloc(), path.as_str(), error);
+        let word = SystemWord(error);
+        lines.say(&UnkeptIds { path, word });
     }
     Ok(kept)
-}
-
-/// Writes a line on standard error if it is accepted at once: the ids aren't kept.
-fn tell_unwritten(alloc: Global, path: &str, error: io::Error) {
-    let word = SystemWord(error);
-    if let Ok(line) = format!(in alloc;
-        "rly: ids: {path}: not written, so a later change of what they mean isn't seen: {word}\n"
-    ) {
-        write_at_once(line.as_bytes());
-    }
 }
 
 fn text_of(kept: &Option<String>) -> Option<&str>

@@ -37,10 +37,11 @@ impl WatchedFile {
         let mut buffer = [0; LONGEST_PATH];
         let path = path_in(self.link.as_str(), &mut buffer);
         let found = file.metadata()?;
-        if found.nlink() == 0 || path.ends_with(DELETED) {
+        let has_moved = path != self.path.as_slice();
+        if found.nlink() == 0 || has_moved && path.ends_with(DELETED) {
             return gone("removed or replaced while it was served");
         }
-        if path != self.path.as_slice() {
+        if has_moved {
             return gone("renamed while it was served");
         }
         if found.len() < size && !found.file_type().is_block_device() {

@@ -1,4 +1,4 @@
--- A report from the answers to the Show of each hop and from the counts (docs/DEFINITIONS.md, "Reports").
+-- A report from the answers to the Show of each hop and from the counts (docs/reference/DEFINITIONS.md, "Reports").
 use Rattle.std.specs.Prelude.{ℕ, ◌+◌, ◌-◌, List, [], ◌∷◌, ◌++◌, length, take, Option, Some, None, Result, Ok, Err}
 use Rattle.std.specs.Prelude.{slice_index_or}
 use Rattle.rly_core.specs.declared.refusal.Refusal.{Refusal}

@@ -1,4 +1,4 @@
--- The counts of a peer's link (docs/DEFINITIONS.md, "Reports").
+-- The counts of a peer's link (docs/reference/DEFINITIONS.md, "Reports").
 use Rattle.std.specs.Prelude.{ℕ, ◌+◌, ◌-◌, ◌^◌, max, min, nat_le, nat_lt, Bool, true, false, not, ◌&&◌, is_some}
 use Rattle.std.specs.Prelude.{if◌then◌else◌, Option, Some, None, List}
 use Rattle.std.specs.Result.{result_ok}

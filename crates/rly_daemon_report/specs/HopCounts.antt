@@ -1,4 +1,4 @@
--- The counts of a hop's link (docs/DEFINITIONS.md, "Reports").
+-- The counts of a hop's link (docs/reference/DEFINITIONS.md, "Reports").
 use Rattle.std.specs.Prelude.{ℕ, ◌==◌, Bool, true, false, ◌&&◌, ◌||◌, not, is_some, Option, Some, None, List}
 use Rattle.rly_hop.specs.FixedBytes.{custody_number, data_number, refused_number}
 use Rattle.rly_hop.specs.declared.message.Message.{Message}

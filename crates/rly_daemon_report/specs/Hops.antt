@@ -1,4 +1,4 @@
--- The asks and the reports of hops (docs/DEFINITIONS.md, "Reports").
+-- The asks and the reports of hops (docs/reference/DEFINITIONS.md, "Reports").
 use Rattle.std.specs.Prelude.{ℕ, List, map, length, Result}
 use Rattle.std.specs.List.{range_with_len}
 use Rattle.rly_core.specs.declared.ids.HopId.{HopId}

@@ -1,4 +1,4 @@
--- The counts of a neighbour's link, and what a report has of it (docs/DEFINITIONS.md, "Reports").
+-- The counts of a neighbour's link, and what a report has of it (docs/reference/DEFINITIONS.md, "Reports").
 use Rattle.std.specs.Prelude.{ℕ, List, None}
 use Rattle.rly_hop.specs.declared.message.StationId.{StationId}
 use Rattle.rly_daemon_report.specs.Counts.{after_heard, after_sent}

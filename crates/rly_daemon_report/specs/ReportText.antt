@@ -1,4 +1,4 @@
--- The text of a report (docs/DEFINITIONS.md, "Reports"): the moment, then each hop, each peer and the device.
+-- The text of a report (docs/reference/DEFINITIONS.md, "Reports"): the moment, then each hop, each peer and the device.
 use Rattle.std.specs.Prelude.{ℕ, ◌-◌, ◌/◌, Bool, true, false, List, [], ◌∷◌, ◌++◌}
 use Rattle.std.specs.Prelude.{codes, Option, Some, None, Result, Ok, Err}
 use Rattle.std.specs.Fmt.{decimal}

@@ -2,7 +2,7 @@
 //! link (`specs/Counts.antt`), `HopCounts` those of a hop's (`specs/HopCounts.antt`), and
 //! `LinkReport::of` returns the counts of either (`specs/LinkCounts.antt`). `show_asks` and
 //! `HopReport::at` query and format the hops (`specs/Hops.antt`), and `text_of` returns the text of
-//! `specs/ReportText.antt` (`docs/DEFINITIONS.md`, "Reports"); `text_of_answers` makes it from the
+//! `specs/ReportText.antt` (`docs/reference/DEFINITIONS.md`, "Reports"); `text_of_answers` makes it from the
 //! answers and counts (`specs/CountedReport.antt`). No I/O. Caller: `rly_daemon_reporter`.
 #![tactic(auto)]
 

@@ -1,4 +1,4 @@
--- A link with a neighbour that counts its packets (docs/DEFINITIONS.md, "Reports").
+-- A link with a neighbour that counts its packets (docs/reference/DEFINITIONS.md, "Reports").
 use Rattle.std.specs.Prelude.{ℕ, List, [], ◌∷◌, fold, map, Option, Some, None}
 use Rattle.http_server.specs.declared.log.Log.{Log}
 use Rattle.rly_hop.specs.declared.message.StationId.{StationId}

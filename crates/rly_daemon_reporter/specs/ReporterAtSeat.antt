@@ -1,4 +1,4 @@
--- A reporter at a seat of its own, in parallel with a relay (docs/DEFINITIONS.md, "Reports").
+-- A reporter at a seat of its own, in parallel with a relay (docs/reference/DEFINITIONS.md, "Reports").
 use Rattle.std.specs.Prelude.{◌≡◌, ℕ, List, [], ◌∷◌, ◌++◌, Option, Some}
 use Rattle.rly_line.specs.Replies.{ReplyId}
 use Rattle.rly_line.specs.Seats.{Caller, new_callers}

@@ -1,4 +1,4 @@
--- A reporter from its start to its end (docs/DEFINITIONS.md, "Reports").
+-- A reporter from its start to its end (docs/reference/DEFINITIONS.md, "Reports").
 use Rattle.std.specs.Prelude.{◌≡◌, ℕ, List, [], ◌∷◌, ◌++◌, map, Bool, true, false, Option, Some, None, Result, Ok, Err}
 use Rattle.std.specs.Prelude.{if◌then◌else◌}
 use Rattle.std.specs.Io.KnownBytes.{Appends}

@@ -1,4 +1,4 @@
--- A relay that reports (docs/DEFINITIONS.md, "Reports").
+-- A relay that reports (docs/reference/DEFINITIONS.md, "Reports").
 use Rattle.std.specs.Prelude.{ℕ, List, [], Option, None, Some}
 use Rattle.rly_line.specs.EndViews.{names_of}
 use Rattle.rly_line.specs.ResponderView.{IsAnsweredBy, ResponderView}

@@ -70,6 +70,8 @@ pub fn serve_with_events<
 ) -> Result<Served<UdpReported<'a, 'o, D, H>>, (ServeFault, D)>
 where
     H::Dir: Send + Sync,
+    H::Stream: Send + Sync,
+    H::Listener: Send + Sync,
     requires sound { IsSoundPlan plan.now }
     requires keys { AreKeysOf plan.now keys }
     ensures room { OnOk result (FitsPlan plan.now journal.state.params) }
@@ -100,7 +102,7 @@ where
         &journal,
         plan,
         keys,
-        settings.turns,
+        settings,
         size,
         lines,
         &reports.tally,

@@ -94,6 +94,8 @@ pub fn serve_reporting<
 ) -> Result<Served<UdpReported<'a, 'o, D, H>>, (ServeFault, D)>
 where
     H::Dir: Send + Sync,
+    H::Stream: Send + Sync,
+    H::Listener: Send + Sync,
     requires sound { IsSoundPlan plan.now }
     requires keys { AreKeysOf plan.now keys }
     ensures room { OnOk result (FitsPlan plan.now journal.state.params) }
@@ -123,7 +125,7 @@ where
         &journal,
         plan,
         keys,
-        settings.turns,
+        settings,
         size,
         lines,
         &reports.tally,
@@ -241,7 +243,7 @@ pub(crate) fn tallied_start<
     journal: &Journal<D>,
     plan: &Plan,
     keys: PlanKeys<'_>,
-    turns: u64,
+    settings: RelaySettings,
     size: u64,
     lines: Arc<ErrorLines, Global>,
     tally: &Arc<Tally, Global>,
@@ -260,10 +262,18 @@ pub(crate) fn tallied_start<
     ensures lacks { LacksRoom plan.now journal.now.state.params
         → (result ≡ Err (fault.Refused refusal.BadGeometry cause.Plan)) × (errors.new ≡ errors.old) }
     ensures posts { IfOk result (λ started. map (duty_over link_below) started.0.items
-        ≡ duties plan.now keys.entry (longest_message journal.now.state.params.payload) turns) }
+        ≡ duties plan.now keys.entry (longest_message journal.now.state.params.payload) settings.turns) }
     ensures watch { IfOk result (λ started. started.2 ≡ first_log journal.now.state) }
 {
-    let (posts, bell, watch) = ready_posts(rt, journal, plan, keys, turns, lines)?;
+    let (posts, bell, watch) = ready_posts(
+        rt,
+        journal,
+        plan,
+        keys,
+        settings.turns,
+        settings.is_patient,
+        lines,
+    )?;
     let is_told = report_start(rt.alloc(), journal, plan, size, &posts, errors).is_ok();
     match tallied_posts(rt, plan, posts, tally) {
         Ok(posts) => Ok((posts, bell, watch, is_told)),

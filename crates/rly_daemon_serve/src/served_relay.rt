@@ -44,6 +44,8 @@ pub struct RelaySettings {
     pub turns: u64,
     /// The pause of a round, in which it gathers more calls.
     pub gather: Duration,
+    /// Whether a link that can't be opened is opened later.
+    pub is_patient: bool,
 }
 
 /// A relay that was started, at its end.
@@ -81,6 +83,8 @@ pub fn serve<
 ) -> Result<Served<UdpRelayed<'a, D, H>>, (ServeFault, D)>
 where
     H::Dir: Send + Sync,
+    H::Stream: Send + Sync,
+    H::Listener: Send + Sync,
     requires sound { IsSoundPlan plan.now }
     requires keys { AreKeysOf plan.now keys }
     ensures room { OnOk result (FitsPlan plan.now journal.state.params) }
@@ -103,6 +107,7 @@ where
         plan,
         keys,
         settings.turns,
+        settings.is_patient,
         lines,
     ) {
         Ok(ready) => ready,
@@ -167,6 +172,7 @@ pub(crate) fn ready_posts<'a, H: AllocGlobal + Files<File = File> + Clock + Net,
     plan: &Plan,
     keys: PlanKeys<'_>,
     turns: u64,
+    is_patient: bool,
     lines: Arc<ErrorLines, Global>,
 ) -> Result<(Vec<UdpPost<'a, H>>, SenderWaker, SpoolWatch<&'a H>), ServeFault>
     requires { IsSoundPlan plan.now }
@@ -181,7 +187,7 @@ pub(crate) fn ready_posts<'a, H: AllocGlobal + Files<File = File> + Clock + Net,
     let longest = longest_served(journal, plan)?;
     let teller = Logger::new(Arc::try_clone(&lines)?);
     let watch = SpoolWatch::new(rt.alloc(), rt, journal, teller)?;
-    let (posts, bell) = posts_of(rt, plan, keys, longest, turns, lines)?;
+    let (posts, bell) = posts_of(rt, plan, keys, longest, turns, is_patient, lines)?;
     Ok((posts, bell, watch))
 }
 
@@ -203,7 +209,12 @@ fn longest_served<D: Disk>(journal: &Journal<D>, plan: &Plan) -> Result<usize, S
 
 /// Logs what is served: the station, its neighbours, the used part of the device, the links without a key, and what
 /// CoDel of the device does at the hops.
-pub(crate) fn report_start<'a, H: AllocGlobal + Files<File = File> + Clock, D: Disk, E: Write>(
+pub(crate) fn report_start<
+    'a,
+    H: AllocGlobal + Files<File = File> + Clock + Net,
+    D: Disk,
+    E: Write,
+>(
     alloc: Global,
     journal: &Journal<D>,
     plan: &Plan,
@@ -229,7 +240,7 @@ pub(crate) fn report_start<'a, H: AllocGlobal + Files<File = File> + Clock, D: D
 }
 
 /// Logs which links have no key, if any.
-fn report_open<'a, H: AllocGlobal + Files<File = File> + Clock, E: Write>(
+fn report_open<'a, H: AllocGlobal + Files<File = File> + Clock + Net, E: Write>(
     posts: &[UdpPost<'a, H>],
     errors: &mut E,
 ) -> io::Result<()> {

@@ -1,4 +1,4 @@
--- The state of a disk in contracts, and the effect of its calls (docs/DEFINITIONS.md, "The disk model").
+-- The state of a disk in contracts, and the effect of its calls (docs/reference/DEFINITIONS.md, "The disk model").
 use Rattle.std.specs.Prelude.{◌≡◌, ◌⊎◌, ◌↔◌, ◌<◌, ◌≤◌, ◌+◌, ◌-◌, ◌^◌, ℕ, List, ◌++◌, length, take, drop, slice_index}
 
 -- the state of a disk in contracts

@@ -1,4 +1,4 @@
--- Lists of calls that are tried in turn (docs/DEFINITIONS.md, "Trials"). A list ends at its first failure; the next one
+-- Lists of calls that are tried in turn (docs/reference/DEFINITIONS.md, "Trials"). A list ends at its first failure; the next one
 -- is tried whether or not earlier ones failed.
 use Rattle.std.specs.Prelude.{◌≡◌, ℕ, ◌+◌, Bool, true, if◌then◌else◌, List, [], ◌∷◌, ◌++◌}
 use Rattle.std.specs.List.{AllByRecursion}

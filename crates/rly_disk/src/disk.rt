@@ -7,7 +7,7 @@ ghost use Rattle.rly_disk.specs.Trace.{Makes, Read, Sync, Write};
 #[derive(Clone, Copy, Debug, PartialEq, Eq, Drop)]
 pub struct DiskFault;
 
-/// One device of fixed size, whose calls may fail (docs/DEFINITIONS.md, "The disk model"). Offsets and sizes are in
+/// One device of fixed size, whose calls may fail (docs/reference/DEFINITIONS.md, "The disk model"). Offsets and sizes are in
 /// bytes.
 ///
 /// Clauses about results and counters hold for any disk, so a disk over a real file can meet them. Clauses about bytes

@@ -1,4 +1,4 @@
--- The state of a folder in contracts (docs/DEFINITIONS.md, "The folder model").
+-- The state of a folder in contracts (docs/reference/DEFINITIONS.md, "The folder model").
 use Rattle.std.specs.Prelude.{◌≡◌, ◌⊎◌, ◌↔◌, ◌≤◌, ◌-◌, ◌^◌, ℕ, List, Option, IsSome, Contains, if◌then◌else◌, take}
 use Rattle.std.specs.List.Sorted.{IsStrictlyIncreasing}
 use Rattle.rly_folder.specs.Names.{is_same_name, name_of}

@@ -10,7 +10,7 @@ use crate::{Area, FolderFile, Name};
 #[derive(Clone, Copy, Debug, PartialEq, Eq, Drop)]
 pub struct FolderFault;
 
-/// A folder whose calls may fail, and which other programs change too (docs/DEFINITIONS.md, "The folder model").
+/// A folder whose calls may fail, and which other programs change too (docs/reference/DEFINITIONS.md, "The folder model").
 ///
 /// Each call is one event, after whatever other programs changed since the last one. Clauses about results and counters
 /// hold for any folder, so a folder of a real file system can meet them. Clauses about files and crashes have the

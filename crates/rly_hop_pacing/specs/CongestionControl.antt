@@ -1,4 +1,4 @@
--- The congestion control of a hop, event by event (docs/PROTOCOL.md, "The pace of a hop").
+-- The congestion control of a hop, event by event (docs/ARCHITECTURE.md, "The pace of a hop").
 use Rattle.std.specs.Prelude.{ℕ, ◌+◌, ◌-◌, ◌*◌, ◌/◌, ◌^◌, ◌==◌, min, max, nat_le, nat_lt, Bool, true, false, not}
 use Rattle.std.specs.Prelude.{◌&&◌, ◌||◌, if◌then◌else◌, List, [], ◌∷◌, length, take, Option, Some, None, is_some}
 use Rattle.std.specs.List.{filter}

@@ -1,4 +1,4 @@
--- The numbers in flight to a hop (docs/PROTOCOL.md, "The pace of a hop").
+-- The numbers in flight to a hop (docs/ARCHITECTURE.md, "The pace of a hop").
 use Rattle.std.specs.Prelude.{ℕ, ◌+◌, ◌-◌, min, max, nat_le, nat_lt, Bool, ◌&&◌, List}
 use Rattle.std.specs.List.{range_with_len}
 use Rattle.rly_hop_pacing.specs.declared.flight.Flight.{Flight}

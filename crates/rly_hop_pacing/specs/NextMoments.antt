@@ -1,4 +1,4 @@
--- When a sending worker has something to do by itself (docs/PROTOCOL.md, "The pace of a hop"). Moments are microseconds.
+-- When a sending worker has something to do by itself (docs/ARCHITECTURE.md, "The pace of a hop"). Moments are microseconds.
 use Rattle.std.specs.Prelude.{ℕ, ◌≡◌, ◌⊎◌, ◌/◌, nat_lt, Bool, false, not, ◌&&◌, ◌||◌, if◌then◌else◌, map, filter}
 use Rattle.std.specs.Prelude.{Option, None, Some, is_some, []}
 use Rattle.rly_hop_pacing.specs.CongestionControl.{ControlView, first_of, is_missing, is_recovering, is_timeout, is_wide}

@@ -1,4 +1,4 @@
--- The pacer of a hop whose rate isn't known (docs/PROTOCOL.md, "The pace of a hop").
+-- The pacer of a hop whose rate isn't known (docs/ARCHITECTURE.md, "The pace of a hop").
 use Rattle.std.specs.Prelude.{ℕ, ◌+◌, ◌-◌, ◌*◌, ◌/◌, ◌^◌, ◌==◌, ◌||◌, if◌then◌else◌, max, min, Option, None}
 use Rattle.std.specs.Int.{div_ceil}
 use Rattle.rly_hop_pacing.specs.Moments.{moment_after}

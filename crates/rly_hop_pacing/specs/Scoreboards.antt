@@ -1,4 +1,4 @@
--- The scoreboard of a hop: when each number in flight was last sent, and which were heard (RFC 6675; docs/PROTOCOL.md,
+-- The scoreboard of a hop: when each number in flight was last sent, and which were heard (RFC 6675; docs/ARCHITECTURE.md,
 -- "The pace of a hop"). Moments are microseconds.
 use Rattle.std.specs.Prelude.{ℕ, zero, suc, ◌+◌, ◌-◌, ◌/◌, ◌%◌, ◌^◌, ◌==◌, max, min, nat_le, nat_lt, Bool, true, false, not}
 use Rattle.std.specs.Prelude.{◌&&◌, ◌||◌, if◌then◌else◌, replicate, slice_index_or, slice_set, Option, None}

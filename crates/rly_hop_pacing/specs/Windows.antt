@@ -1,4 +1,4 @@
--- How many datagrams may be on the way to a hop whose rate isn't known (after BBR; docs/PROTOCOL.md, "The pace of a
+-- How many datagrams may be on the way to a hop whose rate isn't known (after BBR; docs/ARCHITECTURE.md, "The pace of a
 -- hop"). Times are microseconds.
 use Rattle.std.specs.Prelude.{ℕ, ◌+◌, ◌-◌, ◌*◌, ◌/◌, ◌^◌, ◌==◌, min, max, nat_le, nat_lt, Bool, true, false, not}
 use Rattle.std.specs.Prelude.{◌&&◌, ◌||◌, if◌then◌else◌}

@@ -30,7 +30,7 @@ const STOPPED: u64 = 8;
 pub type Numbers = ArrayVec<u64, SLOTS>;
 
 /// The congestion control of a hop's core: what is sent again, how much may be sent, and when
-/// (`docs/PROTOCOL.md`, "The pace of a hop"). The caller reports the numbers that are sent, the messages received and
+/// (`docs/ARCHITECTURE.md`, "The pace of a hop"). The caller reports the numbers that are sent, the messages received and
 /// the state of the contact, in order. Times are microseconds of a monotonic clock; if the clock falls, no time has
 /// passed.
 #[derive(Drop)]

@@ -1,7 +1,7 @@
 //! Congestion control of a hop, without I/O or memory: what is sent again, when a Timeout comes, how many
 //! datagrams may be on the way, and how fast they go out. `CongestionControl` has a scoreboard of what was
 //! sent and heard (RFC 6675, RFC 8985), a retransmission timer (RFC 6298), and for a hop without a rate a
-//! window and a pacer (after BBR); `Rate` is a token bucket. `docs/PROTOCOL.md`, "The pace of a hop", has the
+//! window and a pacer (after BBR); `Rate` is a token bucket. `docs/ARCHITECTURE.md`, "The pace of a hop", has the
 //! rules. Times are microseconds of a clock that the caller passes. Caller: the sending workers of
 //! `rly_threads_workers`.
 #![tactic(auto)]

@@ -1,4 +1,4 @@
--- The result of a fetch, and its device calls (docs/DEFINITIONS.md, "Showing").
+-- The result of a fetch, and its device calls (docs/reference/DEFINITIONS.md, "Showing").
 use Rattle.std.specs.Prelude.{◌≡◌, ℕ, List, [], ◌∷◌, length, Option, Result, Ok, Err}
 use Rattle.rly_core.specs.declared.refusal.Refusal.{Refusal}
 use Rattle.rly_core.specs.declared.refusal.Refusal.TheVariants.{DeviceRead, OutOfMemory}

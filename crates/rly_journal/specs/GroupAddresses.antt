@@ -1,4 +1,4 @@
--- The device addresses of a group's payloads, after it is written (docs/DEFINITIONS.md, "Grouping").
+-- The device addresses of a group's payloads, after it is written (docs/reference/DEFINITIONS.md, "Grouping").
 use Rattle.std.specs.Prelude.{ℕ, ◌+◌, List, [], ◌∷◌, length}
 use Rattle.rly_machine.specs.declared.command.Command.{Command}
 use Rattle.rly_machine.specs.declared.command.Command.TheVariants.{Take, Pick, Release}

@@ -1,4 +1,4 @@
--- The group of a round, while it is made (docs/DEFINITIONS.md, "Grouping").
+-- The group of a round, while it is made (docs/reference/DEFINITIONS.md, "Grouping").
 use Rattle.std.specs.Prelude.{◌≡◌, ℕ, ◌+◌, ◌*◌, List, [], ◌++◌, length}
 use Rattle.std.specs.List.{AllByRecursion, flat_map}
 use Rattle.byteorder.specs.Endian.{big_bytes}

@@ -1,4 +1,4 @@
--- The recovery relation (docs/DEFINITIONS.md, "What an image stands for"): an image recovers to the checkpoint of its
+-- The recovery relation (docs/reference/DEFINITIONS.md, "What an image stands for"): an image recovers to the checkpoint of its
 -- newest head, with the image's bytes for its payloads, followed by the commands of the groups after it, up to the
 -- first closed gate.
 use Rattle.std.specs.Prelude.{◌≡◌, ℕ, ◌+◌, ⊤, List, [], ◌∷◌, length, map}

@@ -1,4 +1,4 @@
--- The state with bytes that a journal shows in contracts; its payloads stay on the device (docs/DEFINITIONS.md,
+-- The state with bytes that a journal shows in contracts; its payloads stay on the device (docs/reference/DEFINITIONS.md,
 -- "Showing").
 use Rattle.std.specs.Prelude.{ℕ, List, ◌++◌, length, replicate, take}
 use Rattle.rly_machine.specs.Fold.{fold}

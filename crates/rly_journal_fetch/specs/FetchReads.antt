@@ -1,4 +1,4 @@
--- The replies to the calls of a round that request payloads on the device (docs/DEFINITIONS.md, "Fetching").
+-- The replies to the calls of a round that request payloads on the device (docs/reference/DEFINITIONS.md, "Fetching").
 use Rattle.std.specs.Prelude.{◌≡◌, ℕ, ◌+◌, ◌≤◌, true, false, List, [], ◌∷◌, length, Option, Some, None, Result, Ok, Err}
 use Rattle.std.specs.List.{AllByRecursion, flat_map, zip}
 use Rattle.rly_core.specs.declared.refusal.Refusal.{Refusal}

@@ -1,4 +1,4 @@
--- A spool whose payloads stay on the device, as a journal has it in memory (docs/DEFINITIONS.md, "The index").
+-- A spool whose payloads stay on the device, as a journal has it in memory (docs/reference/DEFINITIONS.md, "The index").
 use Rattle.std.specs.Prelude.{◌≡◌, ℕ, ◌<◌, ◌≤◌, if◌then◌else◌}
 use Rattle.rly_core.specs.declared.params.Geometry.{Geometry}
 use Rattle.rly_machine.specs.Accepted.{is_accepted}

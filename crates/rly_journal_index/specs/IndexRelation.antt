@@ -1,4 +1,4 @@
--- A spool whose payloads stay on the device, and its relation to the spool with bytes (docs/DEFINITIONS.md, "Keeping").
+-- A spool whose payloads stay on the device, and its relation to the spool with bytes (docs/reference/DEFINITIONS.md, "Keeping").
 use Rattle.std.specs.Prelude.{◌≡◌, ◌⊎◌, ℕ, ◌+◌, ◌<◌, ◌≤◌, List, All, length}
 use Rattle.rly_core.specs.declared.params.Geometry.{Geometry}
 use Rattle.rly_disk.specs.DiskModel.{DiskState}

@@ -1,4 +1,4 @@
--- Collection: the spool for the next head, and the reads that it takes (docs/DEFINITIONS.md, "Drawing").
+-- Collection: the spool for the next head, and the reads that it takes (docs/reference/DEFINITIONS.md, "Drawing").
 use Rattle.std.specs.Prelude.{◌≡◌, ℕ, ◌==◌, if◌then◌else◌, true, false, List}
 use Rattle.std.specs.Prelude.{[], ◌∷◌, length, replicate, Result, Ok, Err}
 use Rattle.std.specs.List.{flat_map}

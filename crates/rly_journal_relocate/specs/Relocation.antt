@@ -1,5 +1,5 @@
 -- Relocation: when a segment is opened, the victim's payloads are written inline into the new head, and lie there from
--- then on (docs/DEFINITIONS.md, "Moving").
+-- then on (docs/reference/DEFINITIONS.md, "Moving").
 use Rattle.std.specs.Prelude.{◌≡◌, ◌≢◌, ℕ, ◌+◌, ◌<◌, ◌≤◌, List, length, replicate, All}
 use Rattle.rly_core.specs.declared.params.Geometry.{Geometry}
 use Rattle.rly_machine.specs.Map.{payloads_of}

@@ -2,7 +2,7 @@
 //! calls into one bounded queue (`specs/Submission.antt`), and get answers through a queue of
 //! their own (`specs/Replies.antt`). One thread answers, with a `Responder` over a `LineEnd`. The
 //! history that each seat knows is a prefix of one legal history of all calls; the bytes of a Fetch
-//! are outside of that (`docs/CLAIMS.md`). Callers: `rly_flush` by `Responder`, `rly_threads` and
+//! are outside of that (`docs/reference/CLAIMS.md`). Callers: `rly_flush` by `Responder`, `rly_threads` and
 //! above by `Seat::call_all`. One thread can also put the batches of several seats (`Seat::put`)
 //! and take the answers of each when they are there (`WaitingSeat`).
 #![tactic(auto)]

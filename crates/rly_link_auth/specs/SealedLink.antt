@@ -1,4 +1,4 @@
--- The ghost history of a link with a key (docs/DEFINITIONS.md, "Keys").
+-- The ghost history of a link with a key (docs/reference/DEFINITIONS.md, "Keys").
 use Rattle.std.specs.Prelude.{ℕ, ◌+◌, ◌-◌, ◌^◌, min, nat_le, Bool, if◌then◌else◌, Option, Some, None, option_and_then}
 use Rattle.std.specs.Prelude.{List, [], length, map, filter}
 use Rattle.std.specs.Cmp.Lexicographic.{pointwise}

@@ -1,4 +1,4 @@
--- The ghost history of the link to a neighbour, with a key or without (docs/DEFINITIONS.md, "Keys").
+-- The ghost history of the link to a neighbour, with a key or without (docs/reference/DEFINITIONS.md, "Keys").
 use Rattle.std.specs.Prelude.{ℕ, List, Option, Some, None}
 use Rattle.rly_link_auth.specs.declared.station_link.StationLink.{StationLink}
 use Rattle.rly_link_auth.specs.declared.station_link.StationLink.TheVariants.{Keyed, Open}

@@ -1,4 +1,4 @@
--- The ghost history of a link with a reorder buffer, and the Heards that it sends (docs/DEFINITIONS.md, "What comes
+-- The ghost history of a link with a reorder buffer, and the Heards that it sends (docs/reference/DEFINITIONS.md, "What comes
 -- ahead of a gap").
 use Rattle.std.specs.Prelude.{◌≡◌, ℕ, ◌+◌, ◌-◌, ◌^◌, min, List, [], ◌∷◌, ◌++◌, Bool, ◌&&◌, is_some}
 use Rattle.std.specs.Prelude.{if◌then◌else◌, Option, Some, None}

@@ -1,3 +1,4 @@
 pub mod BellSteps
 pub mod Turns
 pub mod Sending
+pub mod Waits

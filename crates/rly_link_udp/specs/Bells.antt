@@ -1,4 +1,4 @@
--- The bell of a worker, step by step (docs/PROTOCOL.md, "Waiting times").
+-- The bell of a worker, step by step (docs/ARCHITECTURE.md, "Waiting times").
 use Rattle.std.specs.Prelude.{◌≡◌, ◌≤◌, ◌⊎◌, ℕ, zero, suc, ◌+◌, Bool, true, false, ⊤, List, [], ◌∷◌}
 
 -- its word: the worker asked nothing since its last sleep, asked something, sleeps since it did, or a datagram was stored since

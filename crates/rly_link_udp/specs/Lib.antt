@@ -7,3 +7,6 @@ pub mod SocketLink
 pub mod LinkReorder
 pub mod LinkDuties
 pub mod Unsent
+pub mod PatientLink
+pub mod UdpOpener
+pub mod Refused

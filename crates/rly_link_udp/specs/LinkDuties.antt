@@ -1,6 +1,6 @@
 -- The duty of a worker's link to a socket, and of its clock.
 use Rattle.std.specs.Prelude.{ℕ, ◌==◌, nat_lt, if◌then◌else◌, Bool, false, is_some, List, [], map, option_and_then, Option, None, Some}
-use Rattle.std.specs.Option.{is_none, option_map}
+use Rattle.std.specs.Option.{is_none}
 use Rattle.rly_plan.specs.ContactPlan.{ContactPlan}
 use Rattle.rly_plan_syntax.specs.Endpoints.{Endpoints}
 use Rattle.rly_hop.specs.declared.message.StationId.{StationId}
@@ -12,14 +12,14 @@ use Rattle.rly_link_udp.specs.FolderWatch.{path_of, seen_of, unseen}
 use Rattle.rly_link_log.specs.BackRoutes.{back_routes}
 use Rattle.rly_link_log.specs.LinkLog.{LinkView, link_view, new_link_view}
 use Rattle.rly_link_udp.specs.LinkReorder.{reorder_for}
-use Rattle.rly_station.specs.Warnings.{KnownFailures, known_of, none_yet}
+use Rattle.rly_link_udp.specs.UdpOpener.{patient_addresses, patient_failures}
+use Rattle.rly_station.specs.Warnings.{KnownFailures, none_yet}
 use Rattle.rly_station.specs.declared.warning.SystemCall.TheVariants.{Send}
 use Rattle.rly_link_udp.specs.declared.clock_watch.Reading.{Reading}
 use Rattle.rly_link_udp.specs.declared.folder_watch.FolderPath.{FolderPath}
 use Rattle.rly_link_udp.specs.declared.folder_watch.FolderWatch.{FolderWatch}
 use Rattle.rly_link_udp.specs.declared.link_reorder.LinkReorder.{LinkReorder}
 use Rattle.rly_link_udp.specs.declared.socket_link.SocketLink.{SocketLink}
-use Rattle.rly_link_udp.specs.declared.udp_link.UdpLink.{UdpLink}
 use Rattle.rly_link_udp.specs.declared.wall_clock.WallClock.{WallClock}
 
 -- the receiver of the first peer
@@ -37,10 +37,6 @@ abbrev pub longest_until : Worker → Option ℕ
 longest_until (worker.Receiver peer) = Some 1000000
 longest_until (worker.Sender hop) = None
 
--- the addresses at which a link was opened: none of a bell
-abbrev pub link_addresses : {C : Type 0} → UdpLink C → Option Endpoints
-link_addresses link = option_map (λ a. a.value) link.addresses
-
 -- a link at a socket: its addresses, keys and reorder buffer, its failed sends so far, the owner of its wrong tags, and the log
 -- of what stops it
 pub record SocketDuty : Type 0 where
@@ -56,10 +52,10 @@ reorder_of_link l = record { own = l.link.own; peer = l.link.peer; early = l.lin
 
 abbrev pub socket_duty : {C : Type 0} → SocketLink C → SocketDuty
 socket_duty l = record {
-  addresses = link_addresses (link_below l.link.link);
+  addresses = patient_addresses (link_below l.link.link);
   keys = keys_over l.link.link;
   keeps = reorder_of_link l;
-  failures = option_map known_of (link_below l.link.link).failed_sends;
+  failures = patient_failures (link_below l.link.link);
   tags = l.wrong_tags.worker;
   log = link_view l.log;
 }
@@ -68,17 +64,23 @@ socket_duty l = record {
 abbrev pub own_station : ContactPlan → StationId
 own_station plan = record { 0 = plan.station }
 
--- of a worker of a plan's station whose neighbour is another, at these addresses, with the key if there is one, and this maximum
--- length of a buffered packet: it warns of its own link, of which nothing came yet
-abbrev pub socket_duty_of : Worker → ContactPlan → (peer : StationId) → Endpoints → Option Keys → (longest : ℕ) → SocketDuty
-socket_duty_of w plan peer addresses keys longest = record {
-  addresses = Some addresses;
+-- of a worker of a plan's station whose neighbour is another, over a socket with these addresses and failed sends, with the key
+-- if there is one, and this maximum length of a buffered packet: it warns of its own link, of which nothing came yet
+abbrev pub layers_duty : Worker → ContactPlan → (peer : StationId) → Option Endpoints → Option KnownFailures → Option Keys
+    → (longest : ℕ) → SocketDuty
+layers_duty w plan peer addresses failures keys longest = record {
+  addresses = addresses;
   keys = keys;
   keeps = reorder_for (own_station plan) peer longest w;
-  failures = Some (none_yet (Send w));
+  failures = failures;
   tags = w;
   log = new_link_view w (own_station plan) peer (is_none keys) (back_routes plan w peer);
 }
+
+-- the same over a socket at these addresses, of which no send failed yet
+abbrev pub socket_duty_of : Worker → ContactPlan → (peer : StationId) → Endpoints → Option Keys → (longest : ℕ) → SocketDuty
+socket_duty_of w plan peer addresses keys longest =
+    layers_duty w plan peer (Some addresses) (Some (none_yet (Send w))) keys longest
 
 -- whether a clock watches the wall clock, with the last readings
 pub record ClockDuty : Type 0 where

@@ -2,6 +2,7 @@
 -- those that were passed to it to be sent.
 use Rattle.std.specs.Prelude.{ℕ, List, Option}
 use Rattle.rly_link_reorder.specs.ReorderedLink.{reordered_failures, reordered_heard, reordered_sent}
+use Rattle.rly_link_udp.specs.PatientLink.{patient_failed}
 use Rattle.rly_link_udp.specs.declared.socket_link.SocketLink.{SocketLink}
 use Rattle.rly_link_auth.specs.StationLink.{station_failed}
 use Rattle.rly_link.specs.LinkHistory.{Hearing}
@@ -14,4 +15,4 @@ socket_sent l = reordered_sent l.link
 
 -- how many of its calls failed
 abbrev pub socket_failed : {C : Type 0} → SocketLink C → ℕ
-socket_failed l = reordered_failures (station_failed (λ below. below.failures)) l.link
+socket_failed l = reordered_failures (station_failed (patient_failed (λ below. below.failures))) l.link

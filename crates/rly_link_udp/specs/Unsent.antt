@@ -1,4 +1,4 @@
--- The packet that a link sends again while it waits (docs/PROTOCOL.md, "Waiting times").
+-- The packet that a link sends again while it waits (docs/ARCHITECTURE.md, "Waiting times").
 use Rattle.std.specs.Prelude.{ℕ, List, ◌&&◌, ◌==◌, nat_le, length, if◌then◌else◌}
 
 -- what is kept, in memory of so many bytes: the first packet that fits

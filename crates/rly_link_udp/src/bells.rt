@@ -1,6 +1,7 @@
 //! The bells of a station's workers: each ends the wait of its worker.
 
-use libc::net::{EFD_CLOEXEC, EFD_NONBLOCK, eventfd};
+use libc::net::{EFD_CLOEXEC, EFD_NONBLOCK, POLLIN, eventfd, poll};
+use libc::types::pollfd;
 use os::FromRawFd;
 use rly_core::{HopId, PeerId};
 use rly_link::Worker;
@@ -135,6 +136,19 @@ impl Bell {
     pub(crate) fn end_wait(&self) {
         self.state.store(IDLE, Ordering::SeqCst);
         let _count = libc::read(self.counter.as_raw_fd(), &mut [0; 8]);
+    }
+
+    /// The worker waits for a ring, at most this many milliseconds, or without an end if -1, unless it was woken.
+    pub(crate) fn wait(&self, timeout: i32) {
+        if self.begin_wait() {
+            let ring = pollfd {
+                fd: self.fd(),
+                events: POLLIN,
+                revents: 0,
+            };
+            let _ready = poll(&mut [ring], timeout);
+        }
+        self.end_wait();
     }
 
     /// The descriptor of its counter.

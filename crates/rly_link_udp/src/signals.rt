@@ -41,6 +41,11 @@ impl Signals {
         Ok(SenderWaker::new(self.bells()?))
     }
 
+    /// A share of the log's lines.
+    pub(crate) fn lines(&self) -> Result<Arc<ErrorLines, Global>, AllocError> {
+        self.lines.clone()
+    }
+
     /// The logger of a worker.
     pub fn logger(&self) -> Result<Logger, AllocError>
         ensures { IfOk result (λ teller. logged_warnings teller ≡ []) }

@@ -4,73 +4,90 @@
 ghost use Rattle.std.specs.Prelude.{◌≡◌, ◌↔◌, IsTrue, IsNone};
 ghost use Rattle.rly_link_reorder.specs.ReorderedLink.{new_reordered};
 ghost use Rattle.rly_link_auth.specs.StationLink.{keys_over, station_link};
-ghost use Rattle.rly_link_udp.specs.LinkDuties.{link_addresses, socket_duty};
+ghost use Rattle.rly_link_udp.specs.LinkDuties.{socket_duty};
+ghost use Rattle.rly_link_udp.specs.PatientLink.{refusal_in};
+ghost use Rattle.rly_link_udp.specs.UdpOpener.{patient_addresses, patient_failures};
 ghost use Rattle.rly_link_log.specs.LinkLog.{link_view};
-ghost use Rattle.rly_station.specs.Warnings.{known_of};
-ghost use Rattle.std.specs.Option.{option_map};
 
 use crate::link_reorder::LinkReorder;
+use crate::patient_link::PatientLink;
+use crate::sockets::Sockets;
 use crate::udp_link::UdpLink;
+use crate::udp_opener::UdpOpener;
 use crate::wrong_tags::WrongTags;
 use rly_link::{Link, LinkFault, Sleep};
 use rly_link_auth::{Key, MeteredLink, StationLink};
 use rly_link_log::LinkLog;
 use rly_link_reorder::ReorderedLink;
-use rly_station::moment_of;
+use rly_station::{EndFault, moment_of};
 use std::time::Clock;
+
+/// The link to a socket, which is open or is opened later.
+type UdpPatient<C> = PatientLink<UdpLink<C>, UdpOpener<C>>;
 
 /// A link over UDP, sealed if it has a key, with a reorder buffer over the authenticated packets. It logs packets
 /// of a wrong tag and what else its packets show of what stops it; the socket's link logs failed sends, and packets from
 /// another address.
 #[derive(Drop)]
-pub struct SocketLink<C: Clock + Drop> {
-    link: ReorderedLink<StationLink<UdpLink<C>>>,
+pub struct SocketLink<C: Clock + Sockets + Drop> {
+    link: ReorderedLink<StationLink<UdpPatient<C>>>,
     wrong_tags: WrongTags,
     log: LinkLog,
     clock: C,
-    /// The bytes of its receive buffer, if one was requested and the system says how many.
+    /// The bytes of its receive buffer at the start, if one was requested and the system says how many.
     buffer: Option<u32>,
+    /// Why it wasn't open at the start, if it wasn't.
+    refused: Option<EndFault>,
 }
 
-impl<C: Clock + Drop> SocketLink<C> {
-    /// A link over a socket, sealed with a key if there is one, with its logs and the clock of these. The size of its
-    /// receive buffer is in bytes, if it is known.
+impl<C: Clock + Sockets + Drop> SocketLink<C> {
+    /// A link over a socket, sealed with a key if there is one, with its logs and the clock of these.
     pub(crate) fn new(
-        socket: UdpLink<C>,
+        socket: UdpPatient<C>,
         key: Option<Key>,
         keeping: LinkReorder,
         wrong_tags: WrongTags,
         log: LinkLog,
         clock: C,
-        buffer: Option<u32>,
     ) -> SocketLink<C>
         ensures link { result.link ≡ new_reordered (station_link socket key) keeping.own keeping.peer keeping.early }
         ensures logs { (result.wrong_tags ≡ wrong_tags) × (result.log ≡ log) }
-        ensures buffer { result.buffer ≡ buffer }
+        ensures buffer { result.buffer ≡ socket.opener.granted }
+        ensures refused { result.refused ≡ refusal_in socket.state }
         ensures duty { socket_duty result ≡ record {
-          addresses = link_addresses socket;
+          addresses = patient_addresses socket;
           keys = key;
           keeps = keeping;
-          failures = option_map known_of socket.failed_sends;
+          failures = patient_failures socket;
           tags = wrong_tags.worker;
           log = link_view log;
         } }
     {
         let LinkReorder { own, peer, early } = keeping;
+        let buffer = socket.opener().granted();
+        let refused = socket.refusal();
         SocketLink {
             link: ReorderedLink::new(StationLink::new(socket, key), own, peer, early),
             wrong_tags,
             log,
             clock,
             buffer,
+            refused,
         }
     }
 
-    /// The bytes of its receive buffer, if they are known.
+    /// The bytes of its receive buffer at the start, if they are known.
     pub fn receive_buffer(&self) -> Option<u32>
         ensures { result ≡ self.now.buffer }
     {
         self.buffer
+    }
+
+    /// Why it wasn't open at the start: `None` if it was.
+    pub fn refusal(&self) -> Option<EndFault>
+        ensures { result ≡ self.now.refused }
+    {
+        self.refused
     }
 
     /// The moment of the monotonic clock.
@@ -86,7 +103,7 @@ impl<C: Clock + Drop> SocketLink<C> {
     }
 }
 
-impl<C: Clock + Drop> MeteredLink for SocketLink<C> {
+impl<C: Clock + Sockets + Drop> MeteredLink for SocketLink<C> {
     ghost use Rattle.std.specs.Prelude.{◌≡◌};
     ghost use Rattle.rly_link_auth.specs.StationLink.{wrong_tags};
 
@@ -103,7 +120,7 @@ impl<C: Clock + Drop> MeteredLink for SocketLink<C> {
     }
 }
 
-impl<C: Clock + Drop> Link for SocketLink<C> {
+impl<C: Clock + Sockets + Drop> Link for SocketLink<C> {
     ghost use Rattle.std.specs.Prelude.{◌≡◌, ◌≤◌, ◌∷◌, [], ℕ, IfOk, IfSome, OnErr, OnOk, length};
     ghost use Rattle.rly_link_udp.specs.SocketLink.{socket_failed, socket_heard, socket_sent};
     ghost use Rattle.rly_link_log.specs.LinkLog.{HasNotedReceive, HasNotedSent};

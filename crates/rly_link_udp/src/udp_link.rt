@@ -1,5 +1,6 @@
 ghost use Rattle.std.specs.Prelude.{◌≡◌, ◌≤◌, ◌-◌, ◌^◌, ◌↔◌, IfOk, IfSome, IsErr, IsTrue, None, Some, length};
-ghost use Rattle.rly_link_udp.specs.LinkDuties.{link_addresses};
+ghost use Rattle.std.specs.Option.{option_map};
+ghost use Rattle.rly_link_udp.specs.UdpOpener.{link_addresses};
 ghost use Rattle.rly_link.specs.LinkHistory.{FailuresRose};
 
 use crate::bells::{Bell, Bells};
@@ -80,11 +81,8 @@ impl<C: Clock + Drop> UdpLink<C> {
         ensures addresses { IfOk result (λ link. link_addresses link ≡ Some addresses.now) }
         ensures failures { IfOk result (λ link. link.failures ≡ 0) }
     {
-        let socket = refused_at(End::Listen, receiving_socket(net, addresses.listen()))?;
-        let remote = refused_at(End::Remote, first_address(net, addresses.remote()))?;
-        let mut link = UdpLink::over(socket, remote, clock);
-        link.addresses = Some(Snapshot::of(addresses));
-        Ok(link)
+        let (socket, remote) = bound_at(net, addresses.listen(), addresses.remote())?;
+        Ok(UdpLink::over(socket, remote, clock, Some(Snapshot::of(addresses))))
     }
 
     /// A link that ends its waits by an empty packet to an address of this machine that the system picks. It has no
@@ -96,12 +94,17 @@ impl<C: Clock + Drop> UdpLink<C> {
         let socket = UdpSocket::bind(net, OWN_MACHINE)?;
         socket.set_nonblocking(true)?;
         let remote = socket.local_addr()?;
-        Ok(UdpLink::over(socket, remote, clock))
+        Ok(UdpLink::over(socket, remote, clock, None))
     }
 
-    /// A link over a socket.
-    fn over(socket: UdpSocket, remote: SocketAddr, clock: C) -> UdpLink<C>
-        ensures addresses { link_addresses result ≡ None }
+    /// A link over a socket, which was opened at these addresses, if it isn't a bell's.
+    pub(crate) fn over(
+        socket: UdpSocket,
+        remote: SocketAddr,
+        clock: C,
+        addresses: Option<Snapshot<Addresses>>,
+    ) -> UdpLink<C>
+        ensures addresses { link_addresses result ≡ option_map (λ a. a.value) addresses }
         ensures failures { result.failures ≡ 0 }
     {
         UdpLink {
@@ -116,7 +119,7 @@ impl<C: Clock + Drop> UdpLink<C> {
             longest: None,
             longest_until: None,
             unsent: None,
-            addresses: None,
+            addresses,
             sources: None,
         }
     }
@@ -124,13 +127,6 @@ impl<C: Clock + Drop> UdpLink<C> {
     /// The address on which it receives.
     pub fn address(&self) -> io::Result<SocketAddr> {
         self.socket.local_addr()
-    }
-
-    /// The address to which it sends.
-    pub(crate) fn remote(&self) -> SocketAddr
-        ensures { result ≡ self.now.remote }
-    {
-        self.remote
     }
 
     /// The same, whose waits end by the bell of a worker.
@@ -298,20 +294,7 @@ impl<C: Clock + Drop> UdpLink<C> {
 
     /// A wait in milliseconds, rounded up, and -1 if it has no end.
     fn timeout_of(&self, sleep: Sleep) -> i32 {
-        let left = match sleep {
-            Sleep::No => Some(0),
-            Sleep::Until(moment) => sooner(Some(self.left_until(moment)), self.longest_until),
-            Sleep::Woken => None,
-        };
-        match sooner(left, self.longest) {
-            Some(left) => left.div_ceil(1_000).min(MOST_MILLIS) as i32,
-            None => -1,
-        }
-    }
-
-    /// The microseconds to a moment of the monotonic clock.
-    fn left_until(&self, moment: u64) -> u64 {
-        moment.saturating_sub(moment_of(self.clock.monotonic().ok()))
+        timeout_of(&self.clock, sleep, self.longest, self.longest_until)
     }
 
     /// A receive that began then returned a packet.
@@ -462,6 +445,17 @@ impl<C: Clock + Drop> Link for UdpLink<C> {
     }
 }
 
+/// A socket that receives on `listen`, and the first address that `remote` names.
+pub(crate) fn bound_at<N: Net>(
+    net: &N,
+    listen: &str,
+    remote: &str,
+) -> Result<(UdpSocket, SocketAddr), EndFault> {
+    let socket = refused_at(End::Listen, receiving_socket(net, listen))?;
+    let remote = refused_at(End::Remote, first_address(net, remote))?;
+    Ok((socket, remote))
+}
+
 /// Attaches the address of a link to an error of the system.
 fn refused_at<T>(end: End, outcome: io::Result<T>) -> Result<T, EndFault> {
     match outcome {
@@ -490,6 +484,30 @@ fn first_address<N: Net>(net: &N, text: &str) -> io::Result<SocketAddr> {
         Some(address) => Ok(address),
         None => Err(io::Error::from(ErrorKind::AddrNotAvailable)),
     }
+}
+
+/// A wait in milliseconds, rounded up, and -1 if it has no end: at most `longest` microseconds, and `longest_until` if it is one
+/// until a moment, if these are there.
+pub(crate) fn timeout_of<C: Clock>(
+    clock: &C,
+    sleep: Sleep,
+    longest: Option<u64>,
+    longest_until: Option<u64>,
+) -> i32 {
+    let left = match sleep {
+        Sleep::No => Some(0),
+        Sleep::Until(moment) => sooner(Some(left_until(clock, moment)), longest_until),
+        Sleep::Woken => None,
+    };
+    match sooner(left, longest) {
+        Some(left) => left.div_ceil(1_000).min(MOST_MILLIS) as i32,
+        None => -1,
+    }
+}
+
+/// The microseconds to a moment of the monotonic clock.
+fn left_until<C: Clock>(clock: &C, moment: u64) -> u64 {
+    moment.saturating_sub(moment_of(clock.monotonic().ok()))
 }
 
 /// The shorter of a wait and a bound, in microseconds, if they are there.

@@ -23,6 +23,7 @@ use Rattle.rly_link_folder.specs.contracts.peer_neighbour.PeerNeighbour as Peer
 use Rattle.rly_link_folder.specs.contracts.peer_neighbour.PeerNeighbour.TheInside as PeerInside
 use Rattle.rly_link_udp.proofs.Sending.{socket_send, udp_send}
 use Rattle.rly_link_udp.specs.contracts.udp_link.UdpLink as UdpLink
+use Rattle.rly_link_udp.specs.declared.sockets.Sockets as Sockets
 use Rattle.rly_posts.specs.contracts.folder_log.FolderLog as FolderLog
 use Rattle.rly_posts.specs.contracts.incoming_link.IncomingLink as Incoming
 use Rattle.rly_posts.specs.contracts.neighbour_link.NeighbourLink as NeighbourLink
@@ -96,8 +97,8 @@ outgoing_send C c =
     let fields : AllSend (rows link.parts) = (folder_link_send (Hop.the_row folder) (UdpLink.the_row C) hop (udp_send C c), (search (sendable, crosses) depth 20, (log_send, tt))) in
     struct_send (shape link) fields
 
-pub neighbour_send : (C : RattleType) (g : Clock.Ghosts C.Denot) → IsSend C → IsSend (NeighbourLink.the_row C g)
-neighbour_send C g c =
-    let link : E.Declared = NeighbourLink.the_type C g in
-    let each : EachSend (E.shape link).variants = ((socket_send C g c, tt), ((incoming_send C c, tt), ((outgoing_send C c, tt), tt))) in
+pub neighbour_send : (C : RattleType) (g : Clock.Ghosts C.Denot) (s : Sockets.Ghosts C.Denot) → IsSend C → IsSend (NeighbourLink.the_row C g s)
+neighbour_send C g s c =
+    let link : E.Declared = NeighbourLink.the_type C g s in
+    let each : EachSend (E.shape link).variants = ((socket_send C g s c, tt), ((incoming_send C c, tt), ((outgoing_send C c, tt), tt))) in
     recorded_send (Enum (E.shape link)) link.D link.to link.to_one (enum_send (E.shape link) each)

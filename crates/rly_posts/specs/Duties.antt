@@ -1,5 +1,5 @@
 -- The workers of a plan, and the duty of each.
-use Rattle.std.specs.Prelude.{ℕ, List, map, option_and_then, string_bytes, Option, Some}
+use Rattle.std.specs.Prelude.{◌≡◌, ℕ, List, map, option_and_then, string_bytes, Option, None, Some}
 use Rattle.std.specs.Option.{option_map}
 use Rattle.rly_hop.specs.declared.message.StationId.{StationId}
 use Rattle.rly_link.specs.declared.post.Post.{Post}
@@ -15,9 +15,11 @@ use Rattle.rly_plan.specs.declared.far_end.FarEnd.TheVariants as far
 use Rattle.rly_plan.specs.declared.far_end.FolderEnd.{FolderEnd}
 use Rattle.rly_plan.specs.declared.neighbour.Neighbour.{Neighbour}
 use Rattle.rly_posts.specs.Folders.{IncomingDuty, OutgoingDuty, incoming_duty, incoming_duty_of, outgoing_duty, outgoing_duty_of}
+use Rattle.rly_posts.specs.Neighbour.{refusal_of}
 use Rattle.rly_posts.specs.declared.neighbour_link.NeighbourLink.{NeighbourLink}
 use Rattle.rly_posts.specs.declared.neighbour_link.NeighbourLink.TheVariants as link
 use Rattle.rly_station.specs.Workers.{neighbour_of}
+use Rattle.rly_station.specs.declared.address_fault.EndFault.{EndFault}
 use Rattle.rly_station.specs.declared.plan_keys.KeyedWorker.{KeyedWorker}
 
 -- a link, by its kind
@@ -78,6 +80,13 @@ duty_over below post = record {
   left = post.turn.left;
   clock = clock_duty post.turn;
 }
+
+-- why a post's link wasn't open at the start, if it wasn't
+abbrev pub refusal_at : {C : Type 0} → StationPost C → Option EndFault
+refusal_at post = refusal_of post.link
+
+abbrev pub IsOpened : {C : Type 0} → StationPost C → Type 0
+IsOpened post = refusal_at post ≡ None
 
 abbrev pub duty_at : {C : Type 0} → StationPost C → Duty
 duty_at post = duty_over (λ l. l) post

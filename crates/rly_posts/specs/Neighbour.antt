@@ -1,10 +1,11 @@
 -- The link to a neighbour, by its kind: its ghost history, and what it counts. A folder's link records no history.
-use Rattle.std.specs.Prelude.{◌≡◌, ℕ, List, ◌++◌, Option, None}
+use Rattle.std.specs.Prelude.{◌≡◌, ℕ, Bool, true, false, List, [], ◌∷◌, ◌++◌, Option, None, Some}
 use Rattle.rly_link.specs.LinkHistory.{Hearing}
 use Rattle.rly_link_auth.specs.StationLink.{keys_over, wrong_tags}
 use Rattle.rly_link_udp.specs.SocketLink.{socket_failed, socket_heard, socket_sent}
 use Rattle.rly_link_udp.specs.WrongTags.{tag_warnings}
 use Rattle.rly_station.specs.Warnings.{logged_warnings}
+use Rattle.rly_station.specs.declared.address_fault.EndFault.{EndFault}
 use Rattle.rly_posts.specs.declared.neighbour_link.NeighbourLink.{NeighbourLink}
 use Rattle.rly_posts.specs.declared.neighbour_link.NeighbourLink.TheVariants.{Incoming, Outgoing, Socket}
 
@@ -41,6 +42,18 @@ abbrev pub buffer_of : {C : Type 0} → NeighbourLink C → Option ℕ
 buffer_of (Socket l) = l.buffer
 buffer_of (Incoming l) = None
 buffer_of (Outgoing l) = None
+
+-- why it wasn't open at the start, if it wasn't: a folder is
+abbrev pub refusal_of : {C : Type 0} → NeighbourLink C → Option EndFault
+refusal_of (Socket l) = l.refused
+refusal_of (Incoming l) = None
+refusal_of (Outgoing l) = None
+
+-- one of the links was open at the start
+abbrev pub has_open : List (Option EndFault) → Bool
+has_open [] = false
+has_open (None ∷ later) = true
+has_open (Some fault ∷ later) = has_open later
 
 -- a socket without a key
 abbrev pub IsOpen : {C : Type 0} → NeighbourLink C → Type 0

@@ -15,6 +15,7 @@ mod incoming_link;
 mod laws;
 mod neighbour_link;
 mod open_folder;
+mod open_links;
 mod outgoing_link;
 mod posts;
 mod wake_file;

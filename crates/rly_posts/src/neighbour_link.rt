@@ -1,19 +1,20 @@
 //! The link to a neighbour: a socket, or a folder that plays it.
 
 ghost use Rattle.std.specs.Prelude.{◌≡◌, ◌↔◌, IsTrue};
-ghost use Rattle.rly_posts.specs.Neighbour.{IsOpen, buffer_of};
+ghost use Rattle.rly_posts.specs.Neighbour.{IsOpen, buffer_of, refusal_of};
 
 use crate::incoming_link::IncomingLink;
 use crate::outgoing_link::OutgoingLink;
 use rly_link::{Link, LinkFault, Sleep};
 use rly_link_auth::MeteredLink;
-use rly_link_udp::SocketLink;
+use rly_link_udp::{SocketLink, Sockets};
+use rly_station::EndFault;
 use std::fs::{File, Files};
 use std::time::Clock;
 
 /// The link of a worker to its neighbour.
 #[derive(Drop)]
-pub enum NeighbourLink<C: Clock + Drop> {
+pub enum NeighbourLink<C: Clock + Sockets + Drop> {
     /// The neighbour is a station at a socket.
     Socket(SocketLink<C>),
     /// A folder plays the peer of a receiver.
@@ -22,13 +23,23 @@ pub enum NeighbourLink<C: Clock + Drop> {
     Outgoing(OutgoingLink<C>),
 }
 
-impl<C: AllocGlobal + Files<File = File> + Clock + Clone + Drop> NeighbourLink<C> {
+impl<C: AllocGlobal + Files<File = File> + Clock + Sockets + Clone + Drop> NeighbourLink<C> {
     /// The bytes of its receive buffer, if it is a socket and they are known.
     pub(crate) fn receive_buffer(&self) -> Option<u32>
         ensures { result ≡ buffer_of self.now }
     {
         match self {
             NeighbourLink::Socket(link) => link.receive_buffer(),
+            NeighbourLink::Incoming(_) | NeighbourLink::Outgoing(_) => None,
+        }
+    }
+
+    /// Why it wasn't open at the start: `None` if it was. A folder is.
+    pub(crate) fn refusal(&self) -> Option<EndFault>
+        ensures { result ≡ refusal_of self.now }
+    {
+        match self {
+            NeighbourLink::Socket(link) => link.refusal(),
             NeighbourLink::Incoming(_) | NeighbourLink::Outgoing(_) => None,
         }
     }
@@ -44,7 +55,8 @@ impl<C: AllocGlobal + Files<File = File> + Clock + Clone + Drop> NeighbourLink<C
     }
 }
 
-impl<C: AllocGlobal + Files<File = File> + Clock + Clone + Drop> MeteredLink for NeighbourLink<C> {
+impl<C: AllocGlobal + Files<File = File> + Clock + Sockets + Clone + Drop> MeteredLink
+    for NeighbourLink<C> {
     ghost use Rattle.std.specs.Prelude.{◌≡◌};
     ghost use Rattle.rly_posts.specs.Neighbour.{neighbour_heards, neighbour_wrong_tags};
 
@@ -67,7 +79,8 @@ impl<C: AllocGlobal + Files<File = File> + Clock + Clone + Drop> MeteredLink for
     }
 }
 
-impl<C: AllocGlobal + Files<File = File> + Clock + Clone + Drop> Link for NeighbourLink<C> {
+impl<C: AllocGlobal + Files<File = File> + Clock + Sockets + Clone + Drop> Link
+    for NeighbourLink<C> {
     ghost use Rattle.std.specs.Prelude.{◌≡◌, ◌≤◌, ◌∷◌, [], IfOk, IfSome, OnErr, OnOk, length};
     ghost use Rattle.rly_posts.specs.Neighbour.{neighbour_failed, neighbour_heard, neighbour_sent};
     ghost use Rattle.rly_link.specs.LinkHistory.{FailuresRose, TellsMore, new_hearing, packet_of};

@@ -1,4 +1,4 @@
--- The room for the head of the next segment, for a state whose payloads have device addresses (docs/DEFINITIONS.md,
+-- The room for the head of the next segment, for a state whose payloads have device addresses (docs/reference/DEFINITIONS.md,
 -- "Places").
 use Rattle.std.specs.Prelude.{◌≡◌, ℕ, ◌+◌, ◌-◌, ◌/◌, ◌≤◌, ◌==◌, if◌then◌else◌, List, length}
 use Rattle.rly_core.specs.declared.params.Geometry.{Geometry}

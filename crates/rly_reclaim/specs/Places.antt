@@ -1,4 +1,4 @@
--- The device addresses of a state's payloads, and the live bytes of each segment (docs/DEFINITIONS.md, "Places").
+-- The device addresses of a state's payloads, and the live bytes of each segment (docs/reference/DEFINITIONS.md, "Places").
 use Rattle.std.specs.Prelude.{ℕ, ◌+◌, ◌*◌, ◌/◌, ◌-◌, ◌<◌, ◌≤◌, ◌==◌, if◌then◌else◌, List, map}
 use Rattle.std.specs.List.{range_with_len}
 use Rattle.rly_core.specs.declared.params.Geometry.{Geometry}

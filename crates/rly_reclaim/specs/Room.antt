@@ -1,4 +1,4 @@
--- The minimum length of segments, and when the next one is due (docs/DEFINITIONS.md, "Room").
+-- The minimum length of segments, and when the next one is due (docs/reference/DEFINITIONS.md, "Room").
 use Rattle.std.specs.Prelude.{ℕ, ◌+◌, ◌*◌, ◌/◌, ◌-◌, ◌<◌, ◌≤◌}
 use Rattle.rly_core.specs.declared.params.Geometry.{Geometry}
 

@@ -1,4 +1,4 @@
--- The choice of the segment to open next, and of the segment to clean for it (docs/DEFINITIONS.md, "Room").
+-- The choice of the segment to open next, and of the segment to clean for it (docs/reference/DEFINITIONS.md, "Room").
 use Rattle.std.specs.Prelude.{◌≡◌, ◌≢◌, ℕ, ◌+◌, ◌*◌, ◌/◌, ◌-◌, ◌<◌, ◌≤◌, List, length, slice_index, slice_set}
 use Rattle.rly_core.specs.declared.params.Geometry.{Geometry}
 use Rattle.rly_reclaim.specs.Room.{group_room}

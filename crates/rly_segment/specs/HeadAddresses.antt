@@ -1,5 +1,5 @@
 -- The device addresses of a head's inline payloads, which replace their bytes in a machine after the head was written
--- (docs/DEFINITIONS.md, "Checkpoints, heads and devices").
+-- (docs/reference/DEFINITIONS.md, "Checkpoints, heads and devices").
 use Rattle.std.specs.Prelude.{ℕ, ◌+◌, ◌*◌, List, [], ◌∷◌, length}
 use Rattle.std.specs.List.{flat_map}
 use Rattle.rly_core.specs.declared.params.Geometry.{Geometry}

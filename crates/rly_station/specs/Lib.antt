@@ -3,6 +3,7 @@ pub mod Kinds
 pub mod LinkCauses
 pub mod Moment
 pub mod NamedKey
+pub mod Openings
 pub mod ReceiveBuffers
 pub mod SpoolWarnings
 pub mod Warnings

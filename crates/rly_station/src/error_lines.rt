@@ -2,8 +2,8 @@
 
 use crate::line_form::{LineForm, Priority};
 use crate::line_write::write_line;
-use crate::warning::Warning;
 use std::alloc::{AllocError, Global};
+use std::fmt::Display;
 use std::sync::Arc;
 use std::sync::atomic::{AtomicU64, Ordering};
 use std::thread;
@@ -43,8 +43,8 @@ impl ErrorLines {
         Ok(Arc::new(alloc, lines)?)
     }
 
-    /// Logs a line, if standard error accepts it at once.
-    pub(crate) fn say(&self, warning: &Warning) {
+    /// Logs a warning, if standard error accepts its line at once.
+    pub fn say<D: Display>(&self, warning: &D) {
         let Ok(line) = format!(in self.alloc; "<{}>{warning}\n", Priority::Warning.digit() as char)
         else {
             self.lose(1);

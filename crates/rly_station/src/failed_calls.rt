@@ -72,7 +72,7 @@ fn is_logged(is_known: bool, count: u64) -> bool
 }
 
 /// The kind of a failure: the system's error number, up to the number of kinds; 0 if it has none.
-fn kind_of(error: &io::Error) -> usize
+pub(crate) fn kind_of(error: &io::Error) -> usize
     ensures kind { result ≡ kind_of error.now }
     ensures bound { result < 256 }
 {

@@ -4,7 +4,8 @@
 //! (`specs/Keys.antt`).
 //! `ServeFault` and `FileFault` say why a station can't serve (`specs/Faults.antt`). `FailedCalls`
 //! counts failed sends and reads and logs the first of each kind and every thousandth
-//! (`specs/Warnings.antt`); `buffer_warning` decides which receive buffer is too small
+//! (`specs/Warnings.antt`), and `OpeningLine` is the line of a link that is opened while the station
+//! serves (`specs/Openings.antt`); `buffer_warning` decides which receive buffer is too small
 //! (`specs/ReceiveBuffers.antt`). Callers: `rly_link_udp`, `rly_posts`, `rly_daemon_commands`,
 //! `rly_daemon_serve` and `rly_daemon`.
 #![tactic(auto)]
@@ -23,6 +24,7 @@ mod line_write;
 mod link_cause;
 mod logger;
 mod moment;
+mod opening;
 mod plan_file;
 mod plan_keys;
 mod receive_buffer;
@@ -45,6 +47,7 @@ pub use crate::line_form::LineForm;
 pub use crate::link_cause::{CountedCause, LinkCause};
 pub use crate::logger::Logger;
 pub use crate::moment::moment_of;
+pub use crate::opening::{Opening, OpeningLine};
 pub use crate::plan_file::read_plan;
 pub use crate::plan_keys::{KeyedWorker, NamedKey, PlanKeys, key_in, read_keys};
 pub use crate::receive_buffer::{buffer_warning, wanted_buffer};

@@ -1,4 +1,4 @@
--- A sending worker that is asleep (docs/PROTOCOL.md, "Waiting times").
+-- A sending worker that is asleep (docs/ARCHITECTURE.md, "Waiting times").
 use Rattle.std.specs.Prelude.{ℕ, ◌≡◌, ◌<◌, ⊤, List}
 use Rattle.std.specs.List.{All, flat_map}
 use Rattle.rly_link.specs.declared.link.Sleep.{Sleep}

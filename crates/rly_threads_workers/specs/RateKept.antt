@@ -1,4 +1,4 @@
--- The cost of a sending worker's packets to its hop's rate over a period of turns (docs/PROTOCOL.md, "The pace of a
+-- The cost of a sending worker's packets to its hop's rate over a period of turns (docs/ARCHITECTURE.md, "The pace of a
 -- hop").
 use Rattle.std.specs.Prelude.{ℕ, ◌+◌, List, [], ◌∷◌, length, max, min}
 use Rattle.rly_hop_pacing.specs.Rates.{cost}

@@ -1,5 +1,5 @@
 -- The state of a sending worker between turns, and its changes in a turn before its core acts: which messages it has
--- received, when the core gets a Timeout, and how many messages may be sent (docs/PROTOCOL.md, "The pace of a hop").
+-- received, when the core gets a Timeout, and how many messages may be sent (docs/ARCHITECTURE.md, "The pace of a hop").
 use Rattle.std.specs.Prelude.{ℕ, min, List, [], ◌∷◌, ◌++◌, length, Bool, true, false, nat_le}
 use Rattle.std.specs.Prelude.{if◌then◌else◌, Option, Some, None, is_some, option_map}
 use Rattle.rly_core.specs.declared.params.Params.{Params}

@@ -1,4 +1,4 @@
--- Packets on a hop's port other than a Custody and a Heard on the flight, and a Custody that comes early (docs/PROTOCOL.md,
+-- Packets on a hop's port other than a Custody and a Heard on the flight, and a Custody that comes early (docs/ARCHITECTURE.md,
 -- "Waiting times").
 use Rattle.std.specs.Prelude.{ℕ, ◌≡◌, ◌<◌, ◌+◌, ◌&&◌, nat_lt, Bool, false, fold, List, Option, Some, None}
 use Rattle.rly_hop.specs.declared.message.Message.{Message}

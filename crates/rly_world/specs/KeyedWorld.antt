@@ -1,4 +1,4 @@
--- Two relays whose links have keys, over a network that may deliver anything (docs/DEFINITIONS.md, "Keys").
+-- Two relays whose links have keys, over a network that may deliver anything (docs/reference/DEFINITIONS.md, "Keys").
 use Rattle.std.specs.Prelude.{◌≡◌, ℕ, Bool, true, false, if◌then◌else◌, Option, Some, None, List, [], ◌∷◌, slice_get}
 use Rattle.std.specs.Result.{result_ok}
 use Rattle.rly_core.specs.declared.ids.HopId.{HopId}

@@ -1,4 +1,4 @@
--- The model of one relay (docs/DEFINITIONS.md, "The world of one relay").
+-- The model of one relay (docs/reference/DEFINITIONS.md, "The world of one relay").
 use Rattle.std.specs.Prelude.{◌≡◌, ℕ, Bool, false, List, [], ◌∷◌, ◌++◌, Option, Some, None, length, drop, replicate}
 use Rattle.std.specs.List.{flat_map}
 use Rattle.rly_core.specs.declared.params.Params.{Params}

@@ -1,6 +1,6 @@
 //! Tests of disks and streams in memory: disks whose calls fail, disks that lose power, and streams
-//! that fail; of CoDel's steps and dequeues; and of records, with one allocation that fails, the
-//! largest body of them and the largest checkpoint.
+//! that fail; of CoDel's steps and dequeues; of records, with one allocation that fails, the largest
+//! body of them and the largest checkpoint; and of a report with the greatest numbers.
 //!
 //! Expected values were worked out by hand. A failure means that a disk, a stream or CoDel does
 //! something that its definition excludes. Tests only; no crate calls it.
@@ -33,5 +33,7 @@ mod growths;
 mod large;
 #[cfg(test)]
 mod payloads;
+#[cfg(test)]
+mod reports;
 #[cfg(test)]
 mod streams;

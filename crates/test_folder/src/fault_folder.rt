@@ -94,17 +94,3 @@ fn the_chosen_call_fails(rt: HostRuntime) {
         expect_listed(&rt, &mut inside, Area::Out, row.5, row.0);
     }
 }
-
-/// A list, a read and a removal fail too.
-#[test]
-fn the_other_calls_fail(rt: HostRuntime) {
-    let name = Name {
-        area: Area::Out,
-        number: 1,
-    };
-    let mut folder = FaultFolder::new(MemFolder::new(rt.alloc()), 1, false, After::Stops);
-    expect!(rt; folder.list(Area::Out).is_err());
-    expect!(rt; folder.read(name, 1).is_err());
-    expect!(rt; folder.remove(name).is_err());
-    expect!(rt; folder.calls() == 3 && folder.failures() == 3);
-}

@@ -20,7 +20,7 @@ fn a_link_gives_the_files(rt: HostRuntime) {
     let rung = b"x".to_vec(rt.alloc()).expect(&rt, "memory");
     let coming = vec![in rt.alloc(); Some(rung), None].expect(&rt, "memory");
     let bell = MemLink::new(rt.alloc(), coming, 3);
-    let far = neighbour(&rt, rt.alloc(), two_files(&rt, rt.alloc()));
+    let far = neighbour(&rt, rt.alloc(), None, two_files(&rt, rt.alloc()));
     let mut link = FolderLink::new(far, bell);
     expect_received(&rt, &mut link, Sleep::Woken, QUESTION, 0);
     expect!(rt; link.send(CUSTODY[0]).is_ok());
@@ -36,14 +36,4 @@ fn a_link_gives_the_files(rt: HostRuntime) {
     let (far, bell) = link.into_parts();
     expect!(rt; bell.waits() == 3);
     crate::peer_neighbour::expect_left(&rt, far, &[], 6);
-}
-
-/// In a buffer that is shorter than a message no packet is lost.
-#[test]
-fn a_short_buffer_gets_nothing(rt: HostRuntime) {
-    let bell = MemLink::new(rt.alloc(), Vec::new(rt.alloc()), 0);
-    let far = neighbour(&rt, rt.alloc(), two_files(&rt, rt.alloc()));
-    let mut link = FolderLink::new(far, bell);
-    expect!(rt; link.recv(Sleep::No, &mut [0; 99]) == Ok(None));
-    expect_received(&rt, &mut link, Sleep::No, QUESTION, 0);
 }

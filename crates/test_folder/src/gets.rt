@@ -1,11 +1,8 @@
-//! Files that a reader prints: their order, form and removal, and a failure and a crash at each
-//! call.
+//! Files that a reader prints: a failure and a crash at each call.
 use crate::expect_listed;
 use rly_folder::{After, Area, FaultFolder, Folder, FolderFile, MemFolder, Name};
 use rly_folder_clients::{Form, GetFault, get};
 use std::alloc::Global;
-use std::io;
-use std::io::{Error, ErrorKind, Write};
 use std::process::Abort;
 
 /// The files as they are.
@@ -43,97 +40,6 @@ fn expect_got<R: Abort, F: Folder>(
     let outcome = get(folder, &mut out, form, most);
     expect!(*rt; outcome == got, row);
     expect!(*rt; out.as_slice() == printed, row);
-}
-
-#[test]
-fn files_are_printed_in_order(rt: HostRuntime) {
-    let alloc = rt.alloc();
-    let mut folder = handed_out(&rt, alloc, &[b"b", b"a", b"c"], &[5, 3, 7]);
-    expect_got(&rt, alloc, &mut folder, RAW, 2, Ok(2), b"ab", 0);
-    expect_listed(&rt, &mut folder, Area::Out, &[7], 0);
-    expect_listed(&rt, &mut folder, Area::Printed, &[5], 0);
-    expect_got(&rt, alloc, &mut folder, RAW, 2, Ok(1), b"c", 1);
-    expect_listed(&rt, &mut folder, Area::Out, &[], 1);
-    expect_listed(&rt, &mut folder, Area::Printed, &[7], 1);
-    expect_got(&rt, alloc, &mut folder, RAW, 2, Ok(0), b"", 2);
-    expect_got(&rt, alloc, &mut folder, RAW, 0, Ok(0), b"", 3);
-}
-
-/// A file whose number isn't above the last one was printed: a crash had put it back.
-#[test]
-fn a_file_that_was_printed_is_removed_alone(rt: HostRuntime) {
-    let alloc = rt.alloc();
-    let mut folder = handed_out(&rt, alloc, &[b"a", b"b"], &[3, 5]);
-    let area = Area::Printed;
-    let empty = Vec::new(alloc);
-    folder
-        .put(Name { area, number: 3 }, FolderFile::new(empty, 0))
-        .expect(&rt, "memory");
-    expect_got(&rt, alloc, &mut folder, RAW, 1, Ok(1), b"b", 0);
-    expect_listed(&rt, &mut folder, Area::Out, &[], 0);
-    expect_listed(&rt, &mut folder, Area::Printed, &[5], 0);
-}
-
-/// Whether it is raw, whether it is a line, and what is printed of `AB` behind its destination, and of one byte.
-const FORMS: [(bool, bool, &[u8]); 4] = [
-    (true, false, b"\0\x07AB\x09"),
-    (true, true, b"\0\x07AB\n\x09\n"),
-    (false, false, b"AB"),
-    (false, true, b"AB\n\n"),
-];
-
-#[test]
-fn payloads_are_printed_in_four_forms(rt: HostRuntime) {
-    let alloc = rt.alloc();
-    let mut row = 0_u64;
-    for (raw, lines, printed) in &FORMS {
-        let form = Form {
-            raw: *raw,
-            lines: *lines,
-        };
-        let mut folder = handed_out(&rt, alloc, &[b"\0\x07AB", b"\x09"], &[1, 2]);
-        expect_got(&rt, alloc, &mut folder, form, 9, Ok(2), printed, row);
-        row = row.saturating_add(1);
-    }
-}
-
-/// A file of 65,536 bytes is printed; one of 65,537 isn't, and stays.
-#[test]
-fn a_file_longer_than_any_payload_stays(rt: HostRuntime) {
-    let alloc = rt.alloc();
-    let longest = vec![in alloc; 7_u8; 65_536].expect(&rt, "memory");
-    let longer = vec![in alloc; 7_u8; 65_537].expect(&rt, "memory");
-    let files = [longest.as_slice(), longer.as_slice()];
-    let mut folder = handed_out(&rt, alloc, &files, &[1, 2]);
-    let stopped = Err(GetFault::TooLong);
-    expect_got(&rt, alloc, &mut folder, RAW, 9, stopped, &longest, 0);
-    expect_listed(&rt, &mut folder, Area::Out, &[2], 0);
-    expect_listed(&rt, &mut folder, Area::Printed, &[1], 0);
-}
-
-/// A writer that can't be flushed.
-#[derive(Drop)]
-struct Stuck;
-
-impl Write for Stuck {
-    fn write(&mut self, text: &[u8]) -> io::Result<usize> {
-        Ok(text.len())
-    }
-
-    fn flush(&mut self) -> io::Result<()> {
-        Err(Error::from(ErrorKind::TimedOut))
-    }
-}
-
-/// A payload whose output wasn't flushed is printed again.
-#[test]
-fn a_file_that_was_not_flushed_stays(rt: HostRuntime) {
-    let alloc = rt.alloc();
-    let mut folder = handed_out(&rt, alloc, &[b"a"], &[1]);
-    let stopped = get(&mut folder, &mut Stuck, RAW, 9);
-    expect!(rt; stopped == Err(GetFault::Output));
-    expect_listed(&rt, &mut folder, Area::Printed, &[], 0);
-    expect_got(&rt, alloc, &mut folder, RAW, 9, Ok(1), b"a", 1);
 }
 
 /// The text that is printed up to a failure of this call. The 13 calls: sync, two lists; read, rename, write, link, sync,

@@ -4,28 +4,30 @@ use rly_hop::{MAX_MESSAGE, StationId};
 use rly_link_folder::{HopNeighbour, Outbox};
 use std::process::Abort;
 
-/// Data 0 to 4 of station 7 for station 9, whose payload is one byte.
-const DATA: [&[u8]; 5] = [
-    b"\x52\x4c\x01\x01\x00\x07\x00\x09\x00\x00\x00\x00\x00\x00\x00\x00\x00\x01A",
-    b"\x52\x4c\x01\x01\x00\x07\x00\x09\x00\x00\x00\x00\x00\x00\x00\x01\x00\x01A",
-    b"\x52\x4c\x01\x01\x00\x07\x00\x09\x00\x00\x00\x00\x00\x00\x00\x02\x00\x01B",
-    b"\x52\x4c\x01\x01\x00\x07\x00\x09\x00\x00\x00\x00\x00\x00\x00\x03\x00\x01C",
-    // With a limit of 16 microseconds.
-    b"\x52\x4c\x01\x04\x00\x07\x00\x09\x00\x00\x00\x00\x00\x00\x00\x02\x00\x00\x00\x00\x10\x00\x01B",
-];
+/// Data 0 to 3 of station 7 for station 9, whose payload is one byte, and Data 2 with a limit of 16 microseconds.
+const DATA_0: &[u8] = b"\x52\x4c\x01\x01\x00\x07\x00\x09\x00\x00\x00\x00\x00\x00\x00\x00\x00\x01A";
+
+const DATA_1: &[u8] = b"\x52\x4c\x01\x01\x00\x07\x00\x09\x00\x00\x00\x00\x00\x00\x00\x01\x00\x01A";
+
+const DATA_2: &[u8] = b"\x52\x4c\x01\x01\x00\x07\x00\x09\x00\x00\x00\x00\x00\x00\x00\x02\x00\x01B";
+
+const DATA_3: &[u8] = b"\x52\x4c\x01\x01\x00\x07\x00\x09\x00\x00\x00\x00\x00\x00\x00\x03\x00\x01C";
+
+const LIMITED_2: &[u8] =
+    b"\x52\x4c\x01\x04\x00\x07\x00\x09\x00\x00\x00\x00\x00\x00\x00\x02\x00\x00\x00\x00\x10\x00\x01B";
 
 /// Custody 0 to 2 of station 9 for station 7.
-const CUSTODY: [&[u8]; 3] = [
-    b"\x52\x4c\x01\x02\x00\x09\x00\x07\x00\x00\x00\x00\x00\x00\x00\x00",
-    b"\x52\x4c\x01\x02\x00\x09\x00\x07\x00\x00\x00\x00\x00\x00\x00\x01",
-    b"\x52\x4c\x01\x02\x00\x09\x00\x07\x00\x00\x00\x00\x00\x00\x00\x02",
-];
+const CUSTODY_0: &[u8] = b"\x52\x4c\x01\x02\x00\x09\x00\x07\x00\x00\x00\x00\x00\x00\x00\x00";
+
+const CUSTODY_1: &[u8] = b"\x52\x4c\x01\x02\x00\x09\x00\x07\x00\x00\x00\x00\x00\x00\x00\x01";
+
+const CUSTODY_2: &[u8] = b"\x52\x4c\x01\x02\x00\x09\x00\x07\x00\x00\x00\x00\x00\x00\x00\x02";
 
 /// Data 3 is refused, since the folder is full.
 const FULL: &[u8] = b"\x52\x4c\x01\x03\x00\x09\x00\x07\x00\x00\x00\x00\x00\x00\x00\x03\x06";
 
 /// Packets that draw nothing: a byte, a Data of station 8, one for station 8, a Custody, a Heard.
-const STRAYS: [&[u8]; 5] = [
+const STRAYS: &[&[u8]] = &[
     b"R",
     b"\x52\x4c\x01\x01\x00\x08\x00\x09\x00\x00\x00\x00\x00\x00\x00\x01\x00\x01A",
     b"\x52\x4c\x01\x01\x00\x07\x00\x08\x00\x00\x00\x00\x00\x00\x00\x01\x00\x01A",
@@ -48,45 +50,42 @@ fn expect_next<R: Abort, F: Folder>(rt: &R, far: &mut HopNeighbour<F>, packet: &
     expect!(*rt; &buffer[..count] == packet, row);
 }
 
-/// Checks that a packet draws this one.
-fn expect_drawn<R: Abort, F: Folder>(
-    rt: &R,
-    far: &mut HopNeighbour<F>,
-    packet: &[u8],
-    answer: &[u8],
-    row: u64,
-) {
-    far.hear(packet);
-    expect_next(rt, far, answer, row);
+/// Packets that come, and those that are sent after them.
+type Row = (&'static [&'static [u8]], &'static [&'static [u8]]);
+
+/// Each Data draws a Custody of what is there, and what is no Data for it draws nothing. What a turn of the hop sent is
+/// answered by one Custody, after a refusal.
+const ROWS: [Row; 9] = [
+    (&[], &[]),
+    (STRAYS, &[]),
+    (&[DATA_0], &[CUSTODY_0]),
+    (&[DATA_2], &[CUSTODY_0]),
+    (&[DATA_1], &[CUSTODY_1]),
+    (&[DATA_1], &[CUSTODY_1]),
+    (&[LIMITED_2], &[CUSTODY_2]),
+    (&[DATA_3], &[FULL]),
+    (&[DATA_1, DATA_2, DATA_3, DATA_0], &[FULL, CUSTODY_2]),
+];
+
+/// Checks what a neighbour sends after packets.
+fn expect_answered<R: Abort, F: Folder>(rt: &R, far: &mut HopNeighbour<F>, row: &Row, at: u64) {
+    for packet in row.0 {
+        far.hear(packet);
+    }
+    for packet in row.1 {
+        expect_next(rt, far, packet, at);
+    }
+    expect_next(rt, far, &[], at);
 }
 
-/// Each Data draws a Custody of what is there, and what is no Data for it draws nothing.
 #[test]
 fn each_data_is_answered(rt: HostRuntime) {
     let mut far = neighbour(&rt, MemFolder::new(rt.alloc()));
-    expect_next(&rt, &mut far, &[], 0);
-    for stray in &STRAYS {
-        expect_drawn(&rt, &mut far, stray, &[], 1);
+    let mut at = 0;
+    for row in &ROWS {
+        expect_answered(&rt, &mut far, row, at);
+        at = at.saturating_add(1);
     }
-    expect_drawn(&rt, &mut far, DATA[0], CUSTODY[0], 2);
-    expect_drawn(&rt, &mut far, DATA[2], CUSTODY[0], 3);
-    expect_drawn(&rt, &mut far, DATA[1], CUSTODY[1], 4);
-    expect_drawn(&rt, &mut far, DATA[1], CUSTODY[1], 5);
-    expect_drawn(&rt, &mut far, DATA[4], CUSTODY[2], 6);
-    expect_drawn(&rt, &mut far, DATA[3], FULL, 7);
-    expect_next(&rt, &mut far, &[], 8);
-}
-
-/// What a turn of the hop sent is answered by one Custody, after a refusal.
-#[test]
-fn a_turn_is_answered_once(rt: HostRuntime) {
-    let mut far = neighbour(&rt, MemFolder::new(rt.alloc()));
-    for packet in &[DATA[1], DATA[2], DATA[3], DATA[0]] {
-        far.hear(packet);
-    }
-    expect_next(&rt, &mut far, FULL, 0);
-    expect_next(&rt, &mut far, CUSTODY[2], 1);
-    expect_next(&rt, &mut far, &[], 2);
 }
 
 /// A Data whose file or number can't be made durable draws nothing, and the same one again a Custody: the 4th to the 11th call are
@@ -96,7 +95,7 @@ fn a_failed_call_draws_nothing(rt: HostRuntime) {
     for at in 4..12_u64 {
         let folder = FaultFolder::new(MemFolder::new(rt.alloc()), at, true, After::GoesOn);
         let mut far = neighbour(&rt, folder);
-        expect_drawn(&rt, &mut far, DATA[1], &[], at);
-        expect_drawn(&rt, &mut far, DATA[1], CUSTODY[1], at);
+        expect_answered(&rt, &mut far, &(&[DATA_1], &[]), at);
+        expect_answered(&rt, &mut far, &(&[DATA_1], &[CUSTODY_1]), at);
     }
 }

@@ -36,8 +36,6 @@ mod outbox;
 #[cfg(test)]
 mod peer_neighbour;
 #[cfg(test)]
-mod peer_payloads;
-#[cfg(test)]
 mod puts;
 
 #[cfg(test)]

@@ -156,12 +156,3 @@ fn a_crash_leaves_the_changes_that_stand(rt: HostRuntime) {
         expect_counts(&rt, &left, [2, 0, 0]);
     }
 }
-
-#[test]
-fn a_second_crash_leaves_the_same(rt: HostRuntime) {
-    let left = pending(&rt, rt.alloc())
-        .crash(&[true])
-        .expect(&rt, "memory");
-    let mut again = left.crash(&[]).expect(&rt, "memory");
-    expect_listed(&rt, &mut again, Area::Out, &[1, 2], 0);
-}

@@ -1,6 +1,5 @@
 //! A folder that plays the neighbour of a hop: its answers, a failure and a crash at each call.
 use crate::expect_listed;
-use rly_core::Refusal;
 use rly_folder::{After, Area, FaultFolder, Folder, MemFolder, Name};
 use rly_hop::TakeAnswer;
 use rly_link_folder::Outbox;
@@ -61,59 +60,11 @@ fn each_data_is_a_file_once(rt: HostRuntime) {
     expect_both(&rt, &mut folder, 6);
 }
 
-/// At three files the next Data is refused, and taken once a reader has removed one.
-#[test]
-fn a_full_folder_refuses(rt: HostRuntime) {
-    let full = TakeAnswer::Refused(Refusal::Full);
-    let mut outbox = opened(&rt, MemFolder::new(rt.alloc()));
-    for number in 1..4_u64 {
-        expect_answer(&rt, &mut outbox, number, &[5], TakeAnswer::Taken, number);
-    }
-    expect_answer(&rt, &mut outbox, 4, &[6], full, 4);
-    let mut folder = outbox.into_folder();
-    let area = Area::Out;
-    folder.take(Name { area, number: 2 }).expect(&rt, "memory");
-    let mut outbox = opened(&rt, folder);
-    expect_answer(&rt, &mut outbox, 4, &[6], TakeAnswer::Taken, 5);
-    let mut folder = outbox.into_folder();
-    expect_listed(&rt, &mut folder, Area::Out, &[1, 3, 4], 6);
-    expect_listed(&rt, &mut folder, Area::Kept, &[4], 7);
-}
-
-/// The greatest number stays if a reader has removed all files.
-#[test]
-fn an_empty_folder_keeps_the_greatest_number(rt: HostRuntime) {
-    let mut outbox = opened(&rt, MemFolder::new(rt.alloc()));
-    expect_answer(&rt, &mut outbox, 1, &[5], TakeAnswer::Taken, 0);
-    let mut folder = outbox.into_folder();
-    let area = Area::Out;
-    folder.take(Name { area, number: 1 }).expect(&rt, "memory");
-    let mut outbox = opened(&rt, folder);
-    expect_answer(&rt, &mut outbox, 0, &[9], TakeAnswer::Already(1), 1);
-}
-
 /// Opens a folder, a second time if a call failed.
 fn opened_at_last<R: Abort, F: Folder + Drop>(rt: &R, folder: F) -> Outbox<F> {
     match Outbox::open(folder, MOST) {
         Ok(outbox) => outbox,
         Err(folder) => opened(rt, folder),
-    }
-}
-
-/// The limit of a Data is that of its file.
-#[test]
-fn each_file_has_its_limit(rt: HostRuntime) {
-    let mut outbox = opened(&rt, MemFolder::new(rt.alloc()));
-    expect!(rt; outbox.take(1, 0, PAYLOADS[0]) == TakeAnswer::Taken);
-    expect!(rt; outbox.take(2, 1_099_511_627_775, PAYLOADS[1]) == TakeAnswer::Taken);
-    let mut folder = outbox.into_folder();
-    let area = Area::Out;
-    for (number, limit) in &[(1, 0), (2, 1_099_511_627_775_u64)] {
-        let number = *number;
-        let found = folder
-            .read(Name { area, number }, 9)
-            .expect(&rt, "no fault");
-        expect!(rt; found.is_some_and(|found| found.limit == *limit), number);
     }
 }
 

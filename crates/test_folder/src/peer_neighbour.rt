@@ -3,7 +3,7 @@
 use crate::expect_listed;
 use rly_folder::{After, Area, FaultFolder, Folder, FolderFile, MemFolder, Name};
 use rly_hop::{MAX_MESSAGE, StationId};
-use rly_link_folder::{Admission, PeerNeighbour, Phase};
+use rly_link_folder::{Admission, PeerNeighbour};
 use std::alloc::Global;
 use std::process::Abort;
 
@@ -12,58 +12,107 @@ pub(crate) const QUESTION: &[u8] =
     b"\x52\x4c\x01\x01\x00\x09\x00\x07\x00\x00\x00\x00\x00\x00\x00\x00\x00\x02\x00\x0c";
 
 /// Data 5 to 7, whose payloads are for destination 12.
-pub(crate) const DATA: [&[u8]; 3] = [
-    b"\x52\x4c\x01\x01\x00\x09\x00\x07\x00\x00\x00\x00\x00\x00\x00\x05\x00\x03\x00\x0cA",
-    b"\x52\x4c\x01\x01\x00\x09\x00\x07\x00\x00\x00\x00\x00\x00\x00\x06\x00\x03\x00\x0cB",
-    b"\x52\x4c\x01\x01\x00\x09\x00\x07\x00\x00\x00\x00\x00\x00\x00\x07\x00\x03\x00\x0cC",
-];
+const DATA_5: &[u8] =
+    b"\x52\x4c\x01\x01\x00\x09\x00\x07\x00\x00\x00\x00\x00\x00\x00\x05\x00\x03\x00\x0cA";
+
+const DATA_6: &[u8] =
+    b"\x52\x4c\x01\x01\x00\x09\x00\x07\x00\x00\x00\x00\x00\x00\x00\x06\x00\x03\x00\x0cB";
+
+const DATA_7: &[u8] =
+    b"\x52\x4c\x01\x01\x00\x09\x00\x07\x00\x00\x00\x00\x00\x00\x00\x07\x00\x03\x00\x0cC";
+
+pub(crate) const DATA: [&[u8]; 3] = [DATA_5, DATA_6, DATA_7];
+
+/// Data 6 and 7 that are made of an empty file and of `BC`.
+const EMPTY: &[u8] =
+    b"\x52\x4c\x01\x01\x00\x09\x00\x07\x00\x00\x00\x00\x00\x00\x00\x06\x00\x02\x00\x0c";
+
+const TWO: &[u8] =
+    b"\x52\x4c\x01\x01\x00\x09\x00\x07\x00\x00\x00\x00\x00\x00\x00\x07\x00\x04\x00\x0cBC";
+
+/// Data 5 with a limit of 60,000,000 microseconds, a minute, and with 1,099,511,627,000, the greatest limit of a plan.
+const WITH_A_MINUTE: &[u8] =
+    b"\x52\x4c\x01\x04\x00\x09\x00\x07\x00\x00\x00\x00\x00\x00\x00\x05\x00\x03\x93\x87\x00\x00\x03\x00\x0cA";
+
+const WITH_THE_GREATEST: &[u8] =
+    b"\x52\x4c\x01\x04\x00\x09\x00\x07\x00\x00\x00\x00\x00\x00\x00\x05\xff\xff\xff\xfc\xf8\x00\x03\x00\x0cA";
 
 /// Custody 4 to 9 of station 7 for station 9.
+const CUSTODY_4: &[u8] = b"\x52\x4c\x01\x02\x00\x07\x00\x09\x00\x00\x00\x00\x00\x00\x00\x04";
+
+const CUSTODY_5: &[u8] = b"\x52\x4c\x01\x02\x00\x07\x00\x09\x00\x00\x00\x00\x00\x00\x00\x05";
+
+const CUSTODY_6: &[u8] = b"\x52\x4c\x01\x02\x00\x07\x00\x09\x00\x00\x00\x00\x00\x00\x00\x06";
+
+const CUSTODY_7: &[u8] = b"\x52\x4c\x01\x02\x00\x07\x00\x09\x00\x00\x00\x00\x00\x00\x00\x07";
+
+const CUSTODY_8: &[u8] = b"\x52\x4c\x01\x02\x00\x07\x00\x09\x00\x00\x00\x00\x00\x00\x00\x08";
+
+const CUSTODY_9: &[u8] = b"\x52\x4c\x01\x02\x00\x07\x00\x09\x00\x00\x00\x00\x00\x00\x00\x09";
+
 pub(crate) const CUSTODY: [&[u8]; 6] = [
-    b"\x52\x4c\x01\x02\x00\x07\x00\x09\x00\x00\x00\x00\x00\x00\x00\x04",
-    b"\x52\x4c\x01\x02\x00\x07\x00\x09\x00\x00\x00\x00\x00\x00\x00\x05",
-    b"\x52\x4c\x01\x02\x00\x07\x00\x09\x00\x00\x00\x00\x00\x00\x00\x06",
-    b"\x52\x4c\x01\x02\x00\x07\x00\x09\x00\x00\x00\x00\x00\x00\x00\x07",
-    b"\x52\x4c\x01\x02\x00\x07\x00\x09\x00\x00\x00\x00\x00\x00\x00\x08",
-    b"\x52\x4c\x01\x02\x00\x07\x00\x09\x00\x00\x00\x00\x00\x00\x00\x09",
+    CUSTODY_4, CUSTODY_5, CUSTODY_6, CUSTODY_7, CUSTODY_8, CUSTODY_9,
 ];
 
 /// Data 5 is refused: the spool is full, or there is no route; and Data 7 is.
-const REFUSED: [&[u8]; 3] = [
-    b"\x52\x4c\x01\x03\x00\x07\x00\x09\x00\x00\x00\x00\x00\x00\x00\x05\x06",
-    b"\x52\x4c\x01\x03\x00\x07\x00\x09\x00\x00\x00\x00\x00\x00\x00\x05\x02",
-    b"\x52\x4c\x01\x03\x00\x07\x00\x09\x00\x00\x00\x00\x00\x00\x00\x07\x06",
-];
+const FULL_5: &[u8] = b"\x52\x4c\x01\x03\x00\x07\x00\x09\x00\x00\x00\x00\x00\x00\x00\x05\x06";
+
+const NO_ROUTE_5: &[u8] = b"\x52\x4c\x01\x03\x00\x07\x00\x09\x00\x00\x00\x00\x00\x00\x00\x05\x02";
+
+const FULL_7: &[u8] = b"\x52\x4c\x01\x03\x00\x07\x00\x09\x00\x00\x00\x00\x00\x00\x00\x07\x06";
 
 /// Data 0 is refused: the spool is full, or there is no route.
-const QUESTION_REFUSED: [&[u8]; 2] = [
-    b"\x52\x4c\x01\x03\x00\x07\x00\x09\x00\x00\x00\x00\x00\x00\x00\x00\x06",
-    b"\x52\x4c\x01\x03\x00\x07\x00\x09\x00\x00\x00\x00\x00\x00\x00\x00\x02",
-];
+const FULL_0: &[u8] = b"\x52\x4c\x01\x03\x00\x07\x00\x09\x00\x00\x00\x00\x00\x00\x00\x00\x06";
+
+const NO_ROUTE_0: &[u8] = b"\x52\x4c\x01\x03\x00\x07\x00\x09\x00\x00\x00\x00\x00\x00\x00\x00\x02";
 
 /// Packets that change nothing: a byte, Custody 4 of another station, for another station, a Data, a Heard.
-const STRAYS: [&[u8]; 5] = [
-    b"R",
-    b"\x52\x4c\x01\x02\x00\x08\x00\x09\x00\x00\x00\x00\x00\x00\x00\x04",
-    b"\x52\x4c\x01\x02\x00\x07\x00\x08\x00\x00\x00\x00\x00\x00\x00\x04",
-    b"\x52\x4c\x01\x01\x00\x07\x00\x09\x00\x00\x00\x00\x00\x00\x00\x04\x00\x00",
-    b"\x52\x4c\x01\x05\x00\x07\x00\x09\x00\x00\x00\x00\x00\x00\x00\x04\x00\x00\x00\x00\x00\x00\x00\x00",
-];
+const STRAY: &[u8] = b"R";
+
+const FROM_OTHER: &[u8] = b"\x52\x4c\x01\x02\x00\x08\x00\x09\x00\x00\x00\x00\x00\x00\x00\x04";
+
+const TO_OTHER: &[u8] = b"\x52\x4c\x01\x02\x00\x07\x00\x08\x00\x00\x00\x00\x00\x00\x00\x04";
+
+const A_DATA: &[u8] = b"\x52\x4c\x01\x01\x00\x07\x00\x09\x00\x00\x00\x00\x00\x00\x00\x04\x00\x00";
+
+const A_HEARD: &[u8] =
+    b"\x52\x4c\x01\x05\x00\x07\x00\x09\x00\x00\x00\x00\x00\x00\x00\x04\x00\x00\x00\x00\x00\x00\x00\x00";
 
 /// An empty packet in a script: nothing came for a while.
-pub(crate) const SILENCE: &[u8] = b"";
+const SILENCE: &[u8] = b"";
 
 /// A packet that comes, and the packets that are given after it.
-pub(crate) type Row = (&'static [u8], &'static [&'static [u8]]);
+type Row = (&'static [u8], &'static [&'static [u8]]);
 
-/// The neighbour 9 of station 7, in whose window two Data fit.
-pub(crate) fn neighbour<R: Abort, F: Folder>(rt: &R, alloc: Global, folder: F) -> PeerNeighbour<F> {
-    let rules = Admission::new([12].to_vec(alloc).expect(rt, "memory"), false, 4, None);
-    PeerNeighbour::new(alloc, StationId(9), StationId(7), rules, 2, 0, 12, folder)
+/// The neighbour 9 of station 7, in whose window two Data fit, with the destination and the limit of all files, if they
+/// have them. Destination 12 has a route, and a payload has at most four bytes.
+pub(crate) fn neighbour<R: Abort, F: Folder>(
+    rt: &R,
+    alloc: Global,
+    all: Option<(u16, u64)>,
+    folder: F,
+) -> PeerNeighbour<F> {
+    let routes = [12].to_vec(alloc).expect(rt, "memory");
+    let (destination, limit) = match all {
+        Some((destination, limit)) => (Some(destination), limit),
+        None => (None, 0),
+    };
+    assert!(rt; limit < 1_099_511_627_776);
+    let rules = Admission::new(routes, false, 4, destination);
+    PeerNeighbour::new(
+        alloc,
+        StationId(9),
+        StationId(7),
+        rules,
+        2,
+        limit,
+        12,
+        folder,
+    )
 }
 
 /// Other programs put these files into `new/`, from 1 on, durably.
-pub(crate) fn filled<R: Abort>(rt: &R, alloc: Global, files: &[&[u8]]) -> MemFolder {
+fn filled<R: Abort>(rt: &R, alloc: Global, files: &[&[u8]]) -> MemFolder {
     let mut folder = MemFolder::new(alloc);
     let mut number = 1;
     for file in files {
@@ -85,11 +134,7 @@ fn expect_next<R: Abort, F: Folder>(rt: &R, far: &mut PeerNeighbour<F>, packet: 
 }
 
 /// Plays a script.
-pub(crate) fn expect_script<R: Abort, F: Folder>(
-    rt: &R,
-    far: &mut PeerNeighbour<F>,
-    script: &[Row],
-) {
+fn expect_script<R: Abort, F: Folder>(rt: &R, far: &mut PeerNeighbour<F>, script: &[Row]) {
     let mut number = 0;
     for row in script {
         match row.0 {
@@ -116,155 +161,130 @@ pub(crate) fn expect_left<R: Abort, F: Folder + Drop>(
     expect_listed(rt, &mut folder, Area::Sent, sent, row);
 }
 
-/// It asks until it is answered. Each file is given under the next number, two at most on their way, and again after a
-/// silence; a Custody that goes back or too far changes nothing.
+/// The files of `new/`, the destination and the limit of all files, the packets, and the numbers in `new/` and in `sent/`
+/// after them.
+struct Script {
+    files: &'static [&'static [u8]],
+    all: Option<(u16, u64)>,
+    rows: &'static [Row],
+    left: [&'static [u64]; 2],
+}
+
+const SCRIPTS: [Script; 7] = [
+    // It asks until it is answered. Each file is given under the next number, two at most on their way, and again after a
+    // silence; a Custody that goes back or too far changes nothing.
+    Script {
+        files: &[b"\x00\x0cA", b"\x00\x0cB", b"\x00\x0cC"],
+        all: None,
+        rows: &[
+            (CUSTODY_4, &[QUESTION]),
+            (SILENCE, &[QUESTION]),
+            (STRAY, &[]),
+            (FROM_OTHER, &[]),
+            (TO_OTHER, &[]),
+            (A_DATA, &[]),
+            (A_HEARD, &[]),
+            (FULL_5, &[]),
+            (CUSTODY_4, &[DATA_5, DATA_6]),
+            (CUSTODY_4, &[]),
+            (CUSTODY_9, &[]),
+            (CUSTODY_5, &[DATA_7]),
+            (CUSTODY_4, &[]),
+            (SILENCE, &[DATA_6, DATA_7]),
+            (CUSTODY_7, &[]),
+            (SILENCE, &[]),
+        ],
+        left: [&[], &[]],
+    },
+    // A refusal ends the giving: until a silence, or if it is for good until the number is in the station's custody.
+    Script {
+        files: &[b"\x00\x0cA", b"\x00\x0cB"],
+        all: None,
+        rows: &[
+            (SILENCE, &[QUESTION]),
+            (CUSTODY_4, &[DATA_5, DATA_6]),
+            (NO_ROUTE_0, &[]),
+            (FULL_7, &[]),
+            (FULL_5, &[]),
+            (SILENCE, &[DATA_5, DATA_6]),
+            (NO_ROUTE_5, &[]),
+            (SILENCE, &[]),
+            (CUSTODY_5, &[]),
+            (SILENCE, &[DATA_6]),
+        ],
+        left: [&[], &[6]],
+    },
+    // A refused question changes nothing else. It is asked again after a silence, unless the refusal is for good.
+    Script {
+        files: &[b"\x00\x0cA", b"\x00\x0cB"],
+        all: None,
+        rows: &[
+            (SILENCE, &[QUESTION]),
+            (FULL_0, &[]),
+            (CUSTODY_4, &[]),
+            (SILENCE, &[QUESTION]),
+            (NO_ROUTE_5, &[]),
+            (NO_ROUTE_0, &[]),
+            (SILENCE, &[]),
+            (CUSTODY_4, &[]),
+        ],
+        left: [&[1, 2], &[]],
+    },
+    // A file without a route goes aside, and the one after it is given with the next packet.
+    Script {
+        files: &[b"\x00\x0dX", b"\x00\x0cA"],
+        all: None,
+        rows: &[(SILENCE, &[QUESTION]), (CUSTODY_4, &[]), (STRAY, &[DATA_5])],
+        left: [&[], &[5]],
+    },
+    // A destination of all files is put before each, also before an empty one; one that is too long with it goes aside.
+    Script {
+        files: &[b"A", b"", b"BC", b"BCD"],
+        all: Some((12, 0)),
+        rows: &[
+            (SILENCE, &[QUESTION]),
+            (CUSTODY_4, &[DATA_5, EMPTY]),
+            (CUSTODY_6, &[TWO]),
+            (SILENCE, &[TWO]),
+            (CUSTODY_7, &[]),
+        ],
+        left: [&[], &[]],
+    },
+    // The limit of all files is in each Data, and the question has none.
+    Script {
+        files: &[b"A"],
+        all: Some((12, 60_000_000)),
+        rows: &[
+            (SILENCE, &[QUESTION]),
+            (CUSTODY_4, &[WITH_A_MINUTE]),
+            (SILENCE, &[WITH_A_MINUTE]),
+        ],
+        left: [&[], &[5]],
+    },
+    Script {
+        files: &[b"A"],
+        all: Some((12, 1_099_511_627_000)),
+        rows: &[(SILENCE, &[QUESTION]), (CUSTODY_4, &[WITH_THE_GREATEST])],
+        left: [&[], &[5]],
+    },
+];
+
+/// Plays a script on a folder with its files.
+fn expect_given<R: Abort>(rt: &R, alloc: Global, script: &Script, row: u64) {
+    let mut far = neighbour(rt, alloc, script.all, filled(rt, alloc, script.files));
+    expect_script(rt, &mut far, script.rows);
+    let mut folder = far.into_folder();
+    expect_listed(rt, &mut folder, Area::New, script.left[0], row);
+    expect_listed(rt, &mut folder, Area::Sent, script.left[1], row);
+}
+
 #[test]
 fn files_are_given_in_order(rt: HostRuntime) {
-    let files: &[&[u8]] = &[b"\x00\x0cA", b"\x00\x0cB", b"\x00\x0cC"];
-    let mut far = neighbour(&rt, rt.alloc(), filled(&rt, rt.alloc(), files));
-    let script: &[Row] = &[
-        (CUSTODY[0], &[QUESTION]),
-        (SILENCE, &[QUESTION]),
-        (STRAYS[0], &[]),
-        (STRAYS[1], &[]),
-        (STRAYS[2], &[]),
-        (STRAYS[3], &[]),
-        (STRAYS[4], &[]),
-        (REFUSED[0], &[]),
-        (CUSTODY[0], &[DATA[0], DATA[1]]),
-        (CUSTODY[0], &[]),
-        (CUSTODY[5], &[]),
-        (CUSTODY[1], &[DATA[2]]),
-        (CUSTODY[0], &[]),
-        (SILENCE, &[DATA[1], DATA[2]]),
-        (CUSTODY[3], &[]),
-        (SILENCE, &[]),
-    ];
-    expect_script(&rt, &mut far, script);
-    expect_left(&rt, far, &[], 0);
-}
-
-/// A refusal ends the giving: until a silence, or if it is for good until the number is in the station's custody.
-#[test]
-fn a_refused_data_waits(rt: HostRuntime) {
-    let files: &[&[u8]] = &[b"\x00\x0cA", b"\x00\x0cB"];
-    let mut far = neighbour(&rt, rt.alloc(), filled(&rt, rt.alloc(), files));
-    let start: &[Row] = &[
-        (SILENCE, &[QUESTION]),
-        (CUSTODY[0], &[DATA[0], DATA[1]]),
-        (REFUSED[2], &[]),
-    ];
-    expect_script(&rt, &mut far, start);
-    expect!(rt; far.phase() == Phase::Serving);
-    expect_script(&rt, &mut far, &[(REFUSED[0], &[])]);
-    expect!(rt; far.phase() == Phase::Refused { number: 5, refusal: 6 });
-    let later: &[Row] = &[
-        (SILENCE, &[DATA[0], DATA[1]]),
-        (REFUSED[1], &[]),
-        (SILENCE, &[]),
-    ];
-    expect_script(&rt, &mut far, later);
-    expect!(rt; far.phase() == Phase::Refused { number: 5, refusal: 2 });
-    expect_script(&rt, &mut far, &[(CUSTODY[1], &[]), (SILENCE, &[DATA[1]])]);
-    expect!(rt; far.phase() == Phase::Serving);
-    expect_left(&rt, far, &[6], 0);
-}
-
-/// A refused question is told, and changes nothing else. It is asked again after a silence, unless the refusal is for good.
-#[test]
-fn a_refused_question_waits(rt: HostRuntime) {
-    let mut far = neighbour(&rt, rt.alloc(), two_files(&rt, rt.alloc()));
-    let start: &[Row] = &[(SILENCE, &[QUESTION]), (QUESTION_REFUSED[0], &[])];
-    expect_script(&rt, &mut far, start);
-    expect!(rt; far.phase() == Phase::QuestionRefused { refusal: 6 });
-    let again: &[Row] = &[(CUSTODY[0], &[]), (SILENCE, &[QUESTION]), (REFUSED[1], &[])];
-    expect_script(&rt, &mut far, again);
-    expect!(rt; far.phase() == Phase::Asked);
-    let at_last: &[Row] = &[
-        (QUESTION_REFUSED[1], &[]),
-        (SILENCE, &[]),
-        (CUSTODY[0], &[]),
-    ];
-    expect_script(&rt, &mut far, at_last);
-    expect!(rt; far.phase() == Phase::QuestionRefused { refusal: 2 });
-    let mut folder = far.into_folder();
-    expect_listed(&rt, &mut folder, Area::New, &[1, 2], 0);
-    expect_listed(&rt, &mut folder, Area::Sent, &[], 1);
-}
-
-/// Once the question was answered a refusal of Data 0 says nothing.
-#[test]
-fn a_late_refusal_of_the_question_is_nothing(rt: HostRuntime) {
-    let mut far = neighbour(&rt, rt.alloc(), two_files(&rt, rt.alloc()));
-    let script: &[Row] = &[
-        (SILENCE, &[QUESTION]),
-        (CUSTODY[0], &[DATA[0], DATA[1]]),
-        (QUESTION_REFUSED[1], &[]),
-    ];
-    expect_script(&rt, &mut far, script);
-    expect!(rt; far.phase() == Phase::Serving);
-}
-
-/// Files of these numbers and this length in `sent/`.
-pub(crate) fn with_sent<R: Abort>(
-    rt: &R,
-    alloc: Global,
-    numbers: &[u64],
-    length: usize,
-) -> MemFolder {
-    let mut folder = MemFolder::new(alloc);
-    for number in numbers {
-        let file = vec![in alloc; 0; length].expect(rt, "memory");
-        let (area, number) = (Area::Sent, *number);
-        let file = FolderFile::new(file, 0);
-        folder.put(Name { area, number }, file).expect(rt, "memory");
+    let mut row = 0;
+    for script in &SCRIPTS {
+        expect_given(&rt, rt.alloc(), script, row);
+        row = row.saturating_add(1);
     }
-    folder.sync().expect(rt, "no fault");
-    folder
-}
-
-/// Nothing is given or removed if `sent/` doesn't go on from the station's number: both numbers are told.
-#[test]
-fn a_folder_that_is_apart_stays_shut(rt: HostRuntime) {
-    let mut far = neighbour(&rt, rt.alloc(), with_sent(&rt, rt.alloc(), &[6, 7, 9], 3));
-    let script: &[Row] = &[
-        (SILENCE, &[QUESTION]),
-        (CUSTODY[0], &[]),
-        (SILENCE, &[]),
-        (CUSTODY[2], &[]),
-    ];
-    expect_script(&rt, &mut far, script);
-    let apart = Phase::Apart {
-        custody: 4,
-        least: 6,
-        greatest: 9,
-    };
-    expect!(rt; far.phase() == apart);
-    expect_left(&rt, far, &[6, 7, 9], 0);
-}
-
-/// A file of `sent/` that no message holds is as one that the station refuses as too long.
-#[test]
-fn a_file_that_grew_too_long_is_refused(rt: HostRuntime) {
-    let mut far = neighbour(&rt, rt.alloc(), with_sent(&rt, rt.alloc(), &[5], 8_193));
-    expect_script(&rt, &mut far, &[(SILENCE, &[QUESTION]), (CUSTODY[0], &[])]);
-    expect!(rt; far.phase() == Phase::Refused { number: 5, refusal: 5 });
-    expect_left(&rt, far, &[5], 0);
-}
-
-/// A file without a route goes aside, and the one after it is given.
-#[test]
-fn a_file_without_a_route_is_passed_over(rt: HostRuntime) {
-    let files: &[&[u8]] = &[b"\x00\x0dX", b"\x00\x0cA"];
-    let mut far = neighbour(&rt, rt.alloc(), filled(&rt, rt.alloc(), files));
-    expect_script(&rt, &mut far, &[(SILENCE, &[QUESTION]), (CUSTODY[0], &[])]);
-    // The script has looked at the first one.
-    expect!(rt; far.has_more());
-    expect_next(&rt, &mut far, DATA[0], 0);
-    expect!(rt; !far.has_more());
-    let mut folder = far.into_folder();
-    expect_listed(&rt, &mut folder, Area::NoRoute, &[1], 1);
-    expect_listed(&rt, &mut folder, Area::Sent, &[5], 2);
 }
 
 /// The station takes the next packet, if its number and payload are those that come after `last`, and answers. Returns its
@@ -312,7 +332,7 @@ fn a_failure_at_each_call(rt: HostRuntime) {
     for at in 1..21_u64 {
         for made in &[false, true] {
             let folder = FaultFolder::new(two_files(&rt, rt.alloc()), at, *made, After::GoesOn);
-            let mut far = neighbour(&rt, rt.alloc(), folder);
+            let mut far = neighbour(&rt, rt.alloc(), None, folder);
             expect!(rt; exchange_all(&mut far, 4) == 6, at);
             expect_left(&rt, far, &[], at);
         }
@@ -329,10 +349,10 @@ fn a_crash_at_each_call(rt: HostRuntime) {
         for made in &[false, true] {
             for stands in &STANDS {
                 let folder = FaultFolder::new(two_files(&rt, rt.alloc()), at, *made, After::Stops);
-                let mut far = neighbour(&rt, rt.alloc(), folder);
+                let mut far = neighbour(&rt, rt.alloc(), None, folder);
                 let last = exchange_all(&mut far, 4);
                 let left = far.into_folder().into_inner().crash(stands);
-                let mut far = neighbour(&rt, rt.alloc(), left.expect(&rt, "memory"));
+                let mut far = neighbour(&rt, rt.alloc(), None, left.expect(&rt, "memory"));
                 expect!(rt; exchange_all(&mut far, last) == 6, at);
                 expect_left(&rt, far, &[], at);
             }

@@ -1,80 +1,9 @@
-//! Files that a program puts into a folder: their numbers, refusals, and a failure and a crash at
-//! each call.
+//! Files that a program puts into a folder: a failure and a crash at each call.
 use crate::expect_listed;
-use rly_folder::{After, Area, FaultFolder, Folder, FolderFile, MemFolder, Name};
+use rly_folder::{After, Area, FaultFolder, MemFolder};
 use rly_folder_clients::{PutFault, put};
-use std::process::Abort;
 
 const MOST: u64 = 3;
-
-fn expect_put<R: Abort, F: Folder>(rt: &R, folder: &mut F, number: u64) {
-    let put_as = put(folder, &[5], 0, MOST, 0);
-    expect!(*rt; put_as == Ok(number), number);
-}
-
-/// Each put has the number after the greatest one, another writer's too, and `MOST` files are refused.
-#[test]
-fn puts_have_numbers_in_order(rt: HostRuntime) {
-    let mut folder = MemFolder::new(rt.alloc());
-    expect_put(&rt, &mut folder, 1);
-    let area = Area::New;
-    let file = vec![in rt.alloc(); 7].expect(&rt, "memory");
-    folder
-        .put(Name { area, number: 6 }, FolderFile::new(file, 0))
-        .expect(&rt, "memory");
-    expect_put(&rt, &mut folder, 7);
-    expect!(rt; put(&mut folder, &[5], 0, MOST, 0) == Err(PutFault::Full));
-    expect_listed(&rt, &mut folder, Area::New, &[1, 6, 7], 0);
-    // Two puts of four calls, and two lists.
-    expect!(rt; folder.calls() == 10 && folder.syncs() == 2);
-}
-
-/// A put isn't numbered below the clock, and above the greatest number all the same.
-#[test]
-fn puts_are_numbered_by_the_clock(rt: HostRuntime) {
-    let mut folder = MemFolder::new(rt.alloc());
-    expect!(rt; put(&mut folder, &[5], 0, MOST, 1_000) == Ok(1_000));
-    expect!(rt; put(&mut folder, &[5], 0, MOST, 1_000) == Ok(1_001));
-    expect!(rt; put(&mut folder, &[5], 0, MOST, 900) == Ok(1_002));
-    let area = Area::New;
-    folder
-        .take(Name {
-            area,
-            number: 1_002,
-        })
-        .expect(&rt, "memory");
-    expect!(rt; put(&mut folder, &[5], 0, MOST, 1_003) == Ok(1_003));
-}
-
-/// A put gives its file the limit.
-#[test]
-fn a_put_has_its_limit(rt: HostRuntime) {
-    let mut folder = MemFolder::new(rt.alloc());
-    expect!(rt; put(&mut folder, &[5], 1_099_511_627_775, MOST, 0) == Ok(1));
-    expect!(rt; put(&mut folder, &[6], 0, MOST, 0) == Ok(2));
-    let area = Area::New;
-    let limits = [1_099_511_627_775, 0];
-    for (at, limit) in limits.iter().enumerate() {
-        let number = at as u64 + 1;
-        let found = folder
-            .read(Name { area, number }, 9)
-            .expect(&rt, "no fault");
-        expect!(rt; found.is_some_and(|found| found.limit == *limit), number);
-    }
-}
-
-/// After the greatest number there is none.
-#[test]
-fn the_greatest_number_is_the_last(rt: HostRuntime) {
-    let mut folder = MemFolder::new(rt.alloc());
-    let area = Area::New;
-    let file = vec![in rt.alloc(); 7].expect(&rt, "memory");
-    let number = u64::MAX;
-    folder
-        .put(Name { area, number }, FolderFile::new(file, 0))
-        .expect(&rt, "memory");
-    expect!(rt; put(&mut folder, &[5], 0, MOST, 0) == Err(PutFault::NoNumber));
-}
 
 /// Each of the four calls fails, and is made nevertheless or not: the file is there once or not at all.
 #[test]

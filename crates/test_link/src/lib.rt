@@ -1,5 +1,6 @@
-//! Tests of authenticated links (the vectors of RFC 4231, key files, changed packets) and of the
-//! reorder buffer (Data beyond a gap, and a worker above it).
+//! Tests of the HMAC of authenticated links (the vectors of RFC 4231), and of the reorder buffer (Data
+//! beyond a gap, and a worker above it). Keys and packets with tags are tested with the program
+//! (tests/test_links.py, tests/test_keys.py).
 //!
 //! Expected values are the standard's vectors and bytes worked by hand from docs/PROTOCOL.md.
 #![tactic(auto)]
@@ -17,8 +18,8 @@ macro_rules! expect {
 }
 
 #[cfg(test)]
-mod auth;
-#[cfg(test)]
 mod expect;
 #[cfg(test)]
 mod reorder;
+#[cfg(test)]
+mod vectors;

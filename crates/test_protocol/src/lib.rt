@@ -1,8 +1,7 @@
-//! Tests of contact plans, of the messages between two relays, and of the two protocol cores,
-//! against hand-written rows: the values of a plan that `rly plan` doesn't print
-//! (docs/FORMATS.md), the bytes of messages, and each row of the two tables (docs/PROTOCOL.md).
-//! Faults and the text of a plan are tested with the program (tests/test_plan_faults.py,
-//! tests/test_plan_texts.py).
+//! Tests of the messages between two relays and of the two protocol cores, against hand-written rows:
+//! the bytes of messages, each fault, and each row of the two tables (docs/PROTOCOL.md); and of the
+//! link clocks of a plan (docs/FORMATS.md). What else a plan has is tested with the program
+//! (tests/test_plan_faults.py, tests/test_plan_texts.py).
 #![tactic(auto)]
 
 /// Like `assert!`, as one call: the prover then sees one path instead of two. `assert!` is used if a later call
@@ -20,11 +19,7 @@ macro_rules! expect {
 #[cfg(test)]
 mod expect;
 #[cfg(test)]
-mod growths;
-#[cfg(test)]
 mod messages;
-#[cfg(test)]
-mod plan_texts;
 #[cfg(test)]
 mod plans;
 #[cfg(test)]

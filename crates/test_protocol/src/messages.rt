@@ -1,6 +1,6 @@
 //! The worked messages of docs/PROTOCOL.md, and bytes that are no message.
 use rly_core::Refusal;
-use rly_hop::{Message, StationId, longest_message, marks, read_message, with_mark, write_message};
+use rly_hop::{Message, StationId, read_message, write_message};
 use std::process::Abort;
 
 /// Data from station 3 to 7, number 1, payload `000c41`.
@@ -132,9 +132,11 @@ fn message_in(bytes: &[u8]) -> Option<Message<&[u8]>> {
 /// Bytes, the length of the part that is read, and its refusal.
 type Refused = (&'static [u8], usize, Refusal);
 
-/// Checks the refusal of a row's prefix.
-fn expect_refused<R: Abort>(rt: &R, row: u64, (bytes, length, refusal): &Refused) {
-    expect!(*rt; bytes.get(..*length).and_then(fault) == Some(*refusal), row);
+/// Checks the refusal of each row's prefix.
+fn expect_refused<R: Abort>(rt: &R, rows: &[Refused]) {
+    for (index, (bytes, length, refusal)) in rows.iter().enumerate() {
+        expect!(*rt; bytes.get(..*length).and_then(fault) == Some(*refusal), index as u64);
+    }
 }
 
 /// Faults of the header.
@@ -158,42 +160,6 @@ const HEADERS: [Refused; 14] = [
     (&[0x52, 0x4c, 0x01, 0x05, 0, 0, 0, 7], 8, Refusal::Station),
     (&[0x52, 0x4c, 0x01, 0x05, 0, 3, 0, 0], 8, Refusal::Station),
 ];
-
-#[test]
-fn faults_of_the_header(rt: HostRuntime) {
-    for (row, refused) in HEADERS.iter().enumerate() {
-        expect_refused(&rt, row as u64, refused);
-    }
-}
-
-/// The worked Data with one byte changed.
-fn changed(place: usize, byte: u8) -> [u8; 21] {
-    let mut bytes = DATA;
-    if let Some(found) = bytes.get_mut(place) {
-        *found = byte;
-    }
-    bytes
-}
-
-/// An offset, the byte there, and the refusal of the worked Data with it.
-const CHANGES: [(usize, u8, Refusal); 4] = [
-    (1, 0x4d, Refusal::Magic),
-    (2, 0x02, Refusal::Version),
-    (3, 0x07, Refusal::Kind),
-    (5, 0x00, Refusal::Station),
-];
-
-/// Checks each of these refusals.
-fn expect_changes<R: Abort>(rt: &R) {
-    for (place, byte, refusal) in &CHANGES {
-        expect!(*rt; fault(&changed(*place, *byte)) == Some(*refusal), *place as u64);
-    }
-}
-
-#[test]
-fn changes_of_the_worked_data(rt: HostRuntime) {
-    expect_changes(&rt);
-}
 
 /// A custody, a refusal, a Heard and a Data with one byte too many.
 const CUSTODY_AND_MORE: [u8; 17] = [
@@ -285,24 +251,9 @@ const LENGTHS: [Refused; 22] = [
 ];
 
 #[test]
-fn faults_of_the_length(rt: HostRuntime) {
-    for (row, refused) in LENGTHS.iter().enumerate() {
-        expect_refused(&rt, row as u64, refused);
-    }
-}
-
-/// A message that is cut anywhere is too short.
-fn expect_cut(rt: &impl Abort, message: &[u8]) {
-    for length in 0..message.len() {
-        expect!(*rt; message.get(..length).and_then(fault) == Some(Refusal::Short), length as u64);
-    }
-}
-
-#[test]
-fn messages_that_are_cut_are_too_short(rt: HostRuntime) {
-    expect_cut(&rt, &DATA);
-    expect_cut(&rt, &LIMITED);
-    expect_cut(&rt, &HEARD);
+fn each_fault_is_told(rt: HostRuntime) {
+    expect_refused(&rt, &HEADERS);
+    expect_refused(&rt, &LENGTHS);
 }
 
 /// A Data of the longest payload with this limit has this length. It is written and read; without its last byte it
@@ -358,103 +309,4 @@ fn what_has_no_spelling_is_not_written(rt: HostRuntime) {
     for (from, limit, length, refusal) in &UNWRITTEN {
         expect_unwritten(&rt, *from, *limit, *length, *refusal);
     }
-}
-
-/// Checks that a message from or to no station isn't written.
-fn expect_no_station<R: Abort>(rt: &R, message: Message<&[u8]>) {
-    let mut out = [0xee; 8_300];
-    expect!(*rt; write_message(message, &mut out) == Err(Refusal::Station));
-    expect!(*rt; out[0] == 0xee);
-}
-
-#[test]
-fn custody_for_no_station_is_not_written(rt: HostRuntime) {
-    let to_none = Message::Custody {
-        from: StationId(7),
-        to: StationId(0),
-        last: 1,
-    };
-    expect_no_station(&rt, to_none);
-}
-
-/// A Heard between these stations.
-fn heard_between(from: u16, to: u16) -> Message<&'static [u8]> {
-    Message::Heard {
-        from: StationId(from),
-        to: StationId(to),
-        last: 1,
-        bits: 0x6000_0000_0000_0000,
-    }
-}
-
-#[test]
-fn heard_of_no_station_is_not_written(rt: HostRuntime) {
-    expect_no_station(&rt, heard_between(0, 3));
-    expect_no_station(&rt, heard_between(7, 0));
-}
-
-/// Bits, and a place that is set in them. The first place has the greatest bit, the last one the least.
-const SET: [(u64, u64); 5] = [
-    (0x8000_0000_0000_0000, 0),
-    (0x6000_0000_0000_0000, 1),
-    (0x6000_0000_0000_0000, 2),
-    (0x0000_0000_0000_0002, 62),
-    (0x0000_0000_0000_0001, 63),
-];
-
-/// Bits, and a place that isn't set in them.
-const UNSET: [(u64, u64); 6] = [
-    (0x7fff_ffff_ffff_ffff, 0),
-    (0x6000_0000_0000_0000, 0),
-    (0x6000_0000_0000_0000, 3),
-    (0xffff_ffff_ffff_fffe, 63),
-    (0xffff_ffff_ffff_ffff, 64),
-    (0xffff_ffff_ffff_ffff, 0xffff_ffff_ffff_ffff),
-];
-
-/// Checks whether these places are set.
-fn expect_marks<R: Abort>(rt: &R, rows: &[(u64, u64)], is_set: bool) {
-    for (bits, place) in rows {
-        expect!(*rt; marks(*bits, *place) == is_set, *place);
-    }
-}
-
-#[test]
-fn the_first_number_has_the_greatest_bit(rt: HostRuntime) {
-    expect_marks(&rt, &SET, true);
-    expect_marks(&rt, &UNSET, false);
-}
-
-#[test]
-fn bits_are_set_by_place(rt: HostRuntime) {
-    let three = with_mark(0, 1);
-    expect!(rt; three == 0x4000_0000_0000_0000);
-    expect!(rt; with_mark(three, 2) == 0x6000_0000_0000_0000);
-    expect!(rt; with_mark(three, 1) == three);
-    expect!(rt; with_mark(0, 0) == 0x8000_0000_0000_0000);
-    expect!(rt; with_mark(0, 63) == 1);
-    expect!(rt; with_mark(three, 64) == three);
-}
-
-/// The buffer size for messages, by the longest payload of a spool: 23 bytes before the payload, and no payload has
-/// more than 8,192.
-const LONGEST: [(u64, usize); 6] = [
-    (0, 23),
-    (1, 24),
-    (1_200, 1_223),
-    (8_192, 8_215),
-    (8_193, 8_215),
-    (u64::MAX, 8_215),
-];
-
-/// Checks this size.
-fn expect_room<R: Abort>(rt: &R) {
-    for (payload, length) in &LONGEST {
-        expect!(*rt; longest_message(*payload) == *length, *payload);
-    }
-}
-
-#[test]
-fn the_longest_message_of_a_spool(rt: HostRuntime) {
-    expect_room(&rt);
 }

@@ -1,177 +1,161 @@
 //! The rows of the receiving core's table.
 use crate::expect::expect_row;
 use rly_core::Refusal;
-use rly_hop::{InAction, InEvent, Message, Receiving, StationId, TakeAnswer};
+use rly_hop::{InAction, InEvent, Message, Receiving, StationId, TakeAnswer, read_message};
 use std::process::Abort;
 
 const OWN: StationId = StationId(7);
 
 const PEER: StationId = StationId(3);
 
-const OTHER: StationId = StationId(9);
-
 const PAYLOAD: &[u8] = &[0x00, 0x0c, 0x41];
 
 /// The maximum limit, 2^40 - 1.
 const GREATEST: u64 = 1_099_511_627_775;
 
-/// An event, and the action of a core on it.
-type Row = (InEvent<&'static [u8]>, Option<InAction<&'static [u8]>>);
-
-// The tables are constants, which can't call functions: so these are macros.
-
-/// Data of the peer's station, with a limit or without, or between other stations.
-macro_rules! data {
-    ($number:expr) => {
-        data!(PEER, OWN, $number, 0)
-    };
-    ($number:expr, $limit:expr) => {
-        data!(PEER, OWN, $number, $limit)
-    };
-    ($from:expr, $to:expr, $number:expr, $limit:expr) => {
-        InEvent::Heard(Message::Data {
-            from: $from,
-            to: $to,
-            number: $number,
-            limit: $limit,
-            payload: PAYLOAD,
-        })
-    };
+/// What a core is told: Data of the peer's station with a number and a limit, the answer to a Take, or that there is none.
+#[derive(Clone, Copy)]
+enum Told {
+    Data,
+    Taken,
+    Already,
+    OtherAnswer,
+    Lost,
 }
 
-/// Custody up to a number.
-macro_rules! custody {
-    ($last:expr) => {
-        Some(InAction::Send(Message::Custody {
+/// What it requests: a Take with a number and a limit, custody up to a number, or a refusal of number 5.
+#[derive(Clone, Copy)]
+enum Named {
+    Nothing,
+    Take,
+    Custody,
+    Refused,
+}
+
+use Named::{Custody, Nothing, Refused, Take};
+use Told::{Already, Data, Lost, OtherAnswer, Taken};
+
+/// An event with its numbers, and the action of a core on it with its numbers.
+type Row = (Told, u64, u64, Named, u64, u64);
+
+fn event(told: Told, number: u64, limit: u64) -> InEvent<&'static [u8]> {
+    match told {
+        Data => InEvent::Heard(Message::Data {
+            from: PEER,
+            to: OWN,
+            number,
+            limit,
+            payload: PAYLOAD,
+        }),
+        Taken => InEvent::Answered(TakeAnswer::Taken),
+        Already => InEvent::Answered(TakeAnswer::Already(number)),
+        OtherAnswer => InEvent::Answered(TakeAnswer::Other),
+        Lost => InEvent::Lost,
+    }
+}
+
+fn action(named: Named, number: u64, limit: u64) -> Option<InAction<&'static [u8]>> {
+    match named {
+        Nothing => None,
+        Take => Some(InAction::Take {
+            number,
+            limit,
+            payload: PAYLOAD,
+        }),
+        Custody => Some(InAction::Send(Message::Custody {
             from: OWN,
             to: PEER,
-            last: $last,
-        }))
-    };
-}
-
-/// A refusal, in place of custody of number 5.
-macro_rules! refused {
-    ($refusal:expr) => {
-        Some(InAction::Send(Message::Refused {
+            last: number,
+        })),
+        Refused => Some(InAction::Send(Message::Refused {
             from: OWN,
             to: PEER,
             number: 5,
-            refusal: $refusal,
-        }))
-    };
+            refusal: u8::try_from(number).unwrap_or(0),
+        })),
+    }
 }
 
-/// A Take, with a limit or without.
-macro_rules! take {
-    ($number:expr) => {
-        take!($number, 0)
-    };
-    ($number:expr, $limit:expr) => {
-        Some(InAction::Take {
-            number: $number,
-            limit: $limit,
-            payload: PAYLOAD,
-        })
-    };
-}
+/// What a script shows, and the actions of a new core on events, in order.
+type Script = (&'static str, &'static [Row]);
 
-/// The actions of a new core on events, in order.
-struct Script {
-    shows: &'static str,
-    rows: &'static [Row],
-}
-
-const SCRIPTS: [Script; 6] = [
-    Script {
-        shows: "data of the peer's station is taken",
-        rows: &[(data!(5), take!(5))],
-    },
-    Script {
-        shows: "a limit goes into its take unchanged, and into no other one",
-        rows: &[
-            (data!(1, 1), take!(1, 1)),
-            (InEvent::Answered(TakeAnswer::Taken), custody!(1)),
-            (data!(2, GREATEST), take!(2, GREATEST)),
-            (data!(3, 5_000), None),
-            (InEvent::Answered(TakeAnswer::Taken), custody!(2)),
-            (data!(3), take!(3)),
+const SCRIPTS: [Script; 7] = [
+    (
+        "data of the peer's station is taken",
+        &[(Data, 5, 0, Take, 5, 0)],
+    ),
+    (
+        "a limit goes into its take unchanged, and into no other one",
+        &[
+            (Data, 1, 1, Take, 1, 1),
+            (Taken, 0, 0, Custody, 1, 0),
+            (Data, 2, GREATEST, Take, 2, GREATEST),
+            (Data, 3, 5_000, Nothing, 0, 0),
+            (Taken, 0, 0, Custody, 2, 0),
+            (Data, 3, 0, Take, 3, 0),
         ],
-    },
-    Script {
-        shows: "nothing else is taken",
-        rows: &[
-            (data!(OTHER, OWN, 5, 0), None),
-            (data!(PEER, OTHER, 5, 0), None),
-            (data!(OWN, PEER, 5, 0), None),
-            (
-                InEvent::Heard(Message::Custody {
-                    from: PEER,
-                    to: OWN,
-                    last: 5,
-                }),
-                None,
-            ),
-            (
-                InEvent::Heard(Message::Refused {
-                    from: PEER,
-                    to: OWN,
-                    number: 5,
-                    refusal: 6,
-                }),
-                None,
-            ),
-            (
-                InEvent::Heard(Message::Heard {
-                    from: PEER,
-                    to: OWN,
-                    last: 5,
-                    bits: 0x6000_0000_0000_0000,
-                }),
-                None,
-            ),
-            (data!(6), take!(6)),
+    ),
+    (
+        "one take waits at a time",
+        &[
+            (Data, 5, 0, Take, 5, 0),
+            (Data, 6, 0, Nothing, 0, 0),
+            (Taken, 0, 0, Custody, 5, 0),
+            (Data, 6, 0, Take, 6, 0),
         ],
-    },
-    Script {
-        shows: "one take waits at a time",
-        rows: &[
-            (data!(5), take!(5)),
-            (data!(6), None),
-            (InEvent::Answered(TakeAnswer::Taken), custody!(5)),
-            (data!(6), take!(6)),
+    ),
+    (
+        "what is lost ends the wait",
+        &[
+            (Data, 5, 0, Take, 5, 0),
+            (Lost, 0, 0, Nothing, 0, 0),
+            (Data, 6, 0, Take, 6, 0),
         ],
-    },
-    Script {
-        shows: "what is lost ends the wait",
-        rows: &[
-            (data!(5), take!(5)),
-            (InEvent::Lost, None),
-            (data!(6), take!(6)),
+    ),
+    (
+        "an answer that nothing waits for changes nothing",
+        &[
+            (Taken, 0, 0, Nothing, 0, 0),
+            (Already, 8, 0, Nothing, 0, 0),
+            (Lost, 0, 0, Nothing, 0, 0),
+            (Data, 1, 0, Take, 1, 0),
         ],
-    },
-    Script {
-        shows: "an answer that nothing waits for changes nothing",
-        rows: &[
-            (InEvent::Answered(TakeAnswer::Taken), None),
-            (InEvent::Answered(TakeAnswer::Already(8)), None),
-            (InEvent::Lost, None),
-            (data!(1), take!(1)),
+    ),
+    (
+        "custody of what was taken before is that of the last number",
+        &[
+            (Data, 5, 0, Take, 5, 0),
+            (Already, 8, 0, Custody, 8, 0),
+            (Data, 6, 0, Take, 6, 0),
         ],
-    },
+    ),
+    (
+        "another answer is not sent",
+        &[
+            (Data, 5, 0, Take, 5, 0),
+            (OtherAnswer, 0, 0, Nothing, 0, 0),
+            (Data, 6, 0, Take, 6, 0),
+        ],
+    ),
 ];
 
 /// Checks the actions of a core against a script.
-fn names<R: Abort>(rt: &R, script: &Script) {
+fn names<R: Abort>(rt: &R, (shows, rows): Script) {
     let mut core = Receiving::new(OWN, PEER);
-    for (index, (event, named)) in script.rows.iter().enumerate() {
-        expect_row(rt, core.step(*event) == *named, script.shows, index as u64);
+    for (index, (told, number, limit, named, second, third)) in rows.iter().enumerate() {
+        let found = core.step(event(*told, *number, *limit));
+        expect_row(
+            rt,
+            found == action(*named, *second, *third),
+            shows,
+            index as u64,
+        );
     }
 }
 
 fn names_each(rt: &impl Abort, scripts: &[Script]) {
     for script in scripts {
-        names(rt, script);
+        names(rt, *script);
     }
 }
 
@@ -180,59 +164,87 @@ fn each_script_is_followed(rt: HostRuntime) {
     names_each(&rt, &SCRIPTS);
 }
 
-/// An answer to the Take of number 5, and the action on it.
-type Answered = (TakeAnswer, Option<InAction<&'static [u8]>>);
-
-const ANSWERS: [Answered; 23] = [
-    // custody follows the answer
-    (TakeAnswer::Taken, custody!(5)),
-    (TakeAnswer::Already(8), custody!(8)),
-    (TakeAnswer::Refused(Refusal::Gap(3)), custody!(2)),
-    (TakeAnswer::Refused(Refusal::Gap(1)), custody!(0)),
-    (TakeAnswer::Refused(Refusal::Gap(0)), None),
-    // six refusals are sent
-    (TakeAnswer::Refused(Refusal::NoSuchPeer), refused!(1)),
-    (TakeAnswer::Refused(Refusal::NoSuchHop), refused!(2)),
-    (TakeAnswer::Refused(Refusal::BadMoment), refused!(3)),
-    (TakeAnswer::Refused(Refusal::TooLong), refused!(5)),
-    (TakeAnswer::Refused(Refusal::Full), refused!(6)),
-    (TakeAnswer::Refused(Refusal::Spent), refused!(15)),
-    // other answers are not sent
-    (TakeAnswer::Refused(Refusal::WindowFull), None),
-    (TakeAnswer::Refused(Refusal::Empty), None),
-    (TakeAnswer::Refused(Refusal::NeverSent), None),
-    (TakeAnswer::Refused(Refusal::NotInFlight), None),
-    (TakeAnswer::Refused(Refusal::Broken), None),
-    (TakeAnswer::Refused(Refusal::Unsure), None),
-    (TakeAnswer::Refused(Refusal::DeviceRead), None),
-    (TakeAnswer::Refused(Refusal::OutOfMemory), None),
-    (TakeAnswer::Refused(Refusal::Line), None),
-    (TakeAnswer::Refused(Refusal::Closed), None),
-    (TakeAnswer::Refused(Refusal::Lost), None),
-    (TakeAnswer::Other, None),
+/// What is no Data of the peer's station for this one: Data number 5 of another station, for another station, and from
+/// this one to the peer's, and a Custody, a Refused and a Heard of the peer's station.
+const STRAYS: [&[u8]; 6] = [
+    b"\x52\x4c\x01\x01\x00\x09\x00\x07\x00\x00\x00\x00\x00\x00\x00\x05\x00\x03\x00\x0c\x41",
+    b"\x52\x4c\x01\x01\x00\x03\x00\x09\x00\x00\x00\x00\x00\x00\x00\x05\x00\x03\x00\x0c\x41",
+    b"\x52\x4c\x01\x01\x00\x07\x00\x03\x00\x00\x00\x00\x00\x00\x00\x05\x00\x03\x00\x0c\x41",
+    b"\x52\x4c\x01\x02\x00\x03\x00\x07\x00\x00\x00\x00\x00\x00\x00\x05",
+    b"\x52\x4c\x01\x03\x00\x03\x00\x07\x00\x00\x00\x00\x00\x00\x00\x05\x06",
+    b"\x52\x4c\x01\x05\x00\x03\x00\x07\x00\x00\x00\x00\x00\x00\x00\x05\x60\x00\x00\x00\x00\x00\x00\x00",
 ];
 
-/// An answer has this action, and ends the wait: Data 6 is taken after it.
-fn follows<R: Abort>(rt: &R, row: u64, (answer, named): &Answered) {
+/// An answer to the Take of number 5, and the action on it.
+type Answered = (Refusal, Named, u64);
+
+const REFUSALS: [Answered; 20] = [
+    // custody follows a gap
+    (Refusal::Gap(3), Custody, 2),
+    (Refusal::Gap(1), Custody, 0),
+    (Refusal::Gap(0), Nothing, 0),
+    // six refusals are sent
+    (Refusal::NoSuchPeer, Refused, 1),
+    (Refusal::NoSuchHop, Refused, 2),
+    (Refusal::BadMoment, Refused, 3),
+    (Refusal::TooLong, Refused, 5),
+    (Refusal::Full, Refused, 6),
+    (Refusal::Spent, Refused, 15),
+    // other refusals are not sent
+    (Refusal::WindowFull, Nothing, 0),
+    (Refusal::Empty, Nothing, 0),
+    (Refusal::NeverSent, Nothing, 0),
+    (Refusal::NotInFlight, Nothing, 0),
+    (Refusal::Broken, Nothing, 0),
+    (Refusal::Unsure, Nothing, 0),
+    (Refusal::DeviceRead, Nothing, 0),
+    (Refusal::OutOfMemory, Nothing, 0),
+    (Refusal::Line, Nothing, 0),
+    (Refusal::Closed, Nothing, 0),
+    (Refusal::Lost, Nothing, 0),
+];
+
+/// A refusal has this action, and ends the wait: Data 6 is taken after it.
+fn follows<R: Abort>(rt: &R, row: u64, (refusal, named, number): Answered) {
     let mut core = Receiving::new(OWN, PEER);
+    let _ = core.step(event(Data, 5, 0));
+    let answered = core.step(InEvent::Answered(TakeAnswer::Refused(refusal)));
     expect_row(
         rt,
-        core.step(data!(5)) == take!(5),
-        "the take that is answered",
+        answered == action(named, number, 0),
+        "what follows a refusal",
         row,
     );
-    let answered = core.step(InEvent::Answered(*answer));
-    expect_row(rt, answered == *named, "what follows an answer", row);
-    expect_row(rt, core.step(data!(6)) == take!(6), "the next take", row);
+    let next = core.step(event(Data, 6, 0));
+    expect_row(rt, next == action(Take, 6, 0), "the next take", row);
 }
 
 fn follows_each(rt: &impl Abort, answers: &[Answered]) {
     for (index, row) in answers.iter().enumerate() {
-        follows(rt, index as u64, row);
+        follows(rt, index as u64, *row);
     }
 }
 
 #[test]
-fn each_answer_is_followed(rt: HostRuntime) {
-    follows_each(&rt, &ANSWERS);
+fn each_refusal_is_followed(rt: HostRuntime) {
+    follows_each(&rt, &REFUSALS);
+}
+
+/// Checks that a core requests nothing on these packets, and a Take on Data 6 after them.
+fn ignores(rt: &impl Abort, packets: &[&[u8]]) {
+    let mut core = Receiving::new(OWN, PEER);
+    for (index, packet) in packets.iter().enumerate() {
+        let found = match read_message(packet) {
+            Ok(message) => core.step(InEvent::Heard(message)),
+            Err(_) => panic!(rt; "a message"),
+        };
+        expect_row(rt, found == None, "nothing else is taken", index as u64);
+    }
+    let next = core.step(event(Data, 6, 0));
+    expect_row(rt, next == action(Take, 6, 0), "the next take", 6);
+}
+
+#[test]
+fn nothing_else_is_taken(rt: HostRuntime) {
+    ignores(&rt, &STRAYS);
 }

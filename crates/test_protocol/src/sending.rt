@@ -1,368 +1,393 @@
 //! The rows of the sending core's table.
 use crate::expect::{expect, expect_row};
 use rly_core::Refusal;
-use rly_hop::{Message, OutAction, OutEvent, Sending, StationId};
+use rly_hop::{Message, OutAction, OutEvent, Sending, StationId, read_message};
 use std::process::Abort;
 
 const OWN: StationId = StationId(3);
 
 const HOP: StationId = StationId(7);
 
-const OTHER: StationId = StationId(9);
-
 const PAYLOAD: &[u8] = &[0x00, 0x0c, 0x41];
 
 /// The maximum limit, 2^40 - 1.
 const GREATEST: u64 = 1_099_511_627_775;
 
-const OPEN: OutEvent<&[u8]> = OutEvent::Turn { is_open: true };
+/// The last number of 64 bits.
+const LAST: u64 = 18_446_744_073_709_551_615;
 
-const SHUT: OutEvent<&[u8]> = OutEvent::Turn { is_open: false };
-
-/// An event, and the action of a core on it.
-type Row = (OutEvent<&'static [u8]>, Option<OutAction<&'static [u8]>>);
-
-// The tables are constants, which can't call functions: so these are macros.
-
-/// A custody of the hop's station up to a number, or one between other stations.
-macro_rules! custody {
-    ($last:expr) => {
-        custody!(HOP, OWN, $last)
-    };
-    ($from:expr, $to:expr, $last:expr) => {
-        OutEvent::Heard(Message::Custody {
-            from: $from,
-            to: $to,
-            last: $last,
-        })
-    };
+/// What a core is told: a turn while a contact is open, or while none is; a window's first number and the one after its
+/// last; the number of a Pick; that of a Fetch, and its limit; custody of the hop's station up to a number; and what has
+/// no number.
+#[derive(Clone, Copy)]
+enum Told {
+    Open,
+    Shut,
+    WindowIs,
+    Picked,
+    Fetched,
+    Custody,
+    Released,
+    Unchanged,
+    Timeout,
+    NothingFound,
+    OtherAnswer,
+    Broken,
 }
 
-/// The payload of a number, fetched with a limit or without.
-macro_rules! fetched {
-    ($number:expr) => {
-        fetched!($number, 0)
-    };
-    ($number:expr, $limit:expr) => {
-        OutEvent::Fetched {
-            number: $number,
-            limit: $limit,
+/// What it requests: of what has a number that number, and of a Data its limit too.
+#[derive(Clone, Copy)]
+enum Named {
+    Nothing,
+    AskWindow,
+    Release,
+    Fetch,
+    Pick,
+    Data,
+}
+
+use Named::{AskWindow, Data, Fetch, Nothing, Pick, Release};
+use Told::{
+    Broken, Custody, Fetched, NothingFound, Open, OtherAnswer, Picked, Released, Shut, Timeout,
+    Unchanged, WindowIs,
+};
+
+/// An event with its numbers.
+type Event = (Told, u64, u64);
+
+/// The same, and the action of a core on it with its numbers.
+type Row = (Told, u64, u64, Named, u64, u64);
+
+fn event(told: Told, number: u64, second: u64) -> OutEvent<&'static [u8]> {
+    match told {
+        Open => OutEvent::Turn { is_open: true },
+        Shut => OutEvent::Turn { is_open: false },
+        WindowIs => OutEvent::WindowIs {
+            first: number,
+            next: second,
+        },
+        Picked => OutEvent::Picked(number),
+        Fetched => OutEvent::Fetched {
+            number,
+            limit: second,
             payload: PAYLOAD,
-        }
-    };
+        },
+        Custody => OutEvent::Heard(Message::Custody {
+            from: HOP,
+            to: OWN,
+            last: number,
+        }),
+        Released => OutEvent::Released,
+        Unchanged => OutEvent::Unchanged,
+        Timeout => OutEvent::Timeout,
+        NothingFound => OutEvent::Nothing,
+        OtherAnswer => OutEvent::Other,
+        Broken => OutEvent::Refused(Refusal::Broken),
+    }
 }
 
-/// A Data, with a limit or without.
-macro_rules! data {
-    ($number:expr) => {
-        data!($number, 0)
-    };
-    ($number:expr, $limit:expr) => {
-        Some(OutAction::Send(Message::Data {
+fn action(named: Named, number: u64, limit: u64) -> Option<OutAction<&'static [u8]>> {
+    match named {
+        Nothing => None,
+        AskWindow => Some(OutAction::AskWindow),
+        Release => Some(OutAction::Release(number)),
+        Fetch => Some(OutAction::Fetch(number)),
+        Pick => Some(OutAction::Pick),
+        Data => Some(OutAction::Send(Message::Data {
             from: OWN,
             to: HOP,
-            number: $number,
-            limit: $limit,
+            number,
+            limit,
             payload: PAYLOAD,
-        }))
-    };
+        })),
+    }
 }
 
-/// The actions of a core on events, in order.
-struct Script {
-    shows: &'static str,
-    window: u64,
-    /// The first number of its flight, and the one after the last. A core without them isn't ready.
-    flight: Option<(u64, u64)>,
-    rows: &'static [Row],
-}
+/// What a script shows, a window, and the first number of the flight with the one after the last, 0 and 0 for a core that
+/// isn't ready; and the actions of the core on events, in order.
+type Script = (&'static str, u64, [u64; 2], &'static [Row]);
 
-const SCRIPTS: [Script; 24] = [
-    Script {
-        shows: "a core that is not ready asks for the window",
-        window: 8,
-        flight: None,
-        rows: &[
-            (SHUT, Some(OutAction::AskWindow)),
-            (OPEN, Some(OutAction::AskWindow)),
-            (OutEvent::WindowIs { first: 3, next: 5 }, None),
-            (OPEN, Some(OutAction::Fetch(3))),
+const SCRIPTS: [Script; 26] = [
+    (
+        "a core that is not ready asks for the window",
+        8,
+        [0, 0],
+        &[
+            (Shut, 0, 0, AskWindow, 0, 0),
+            (Open, 0, 0, AskWindow, 0, 0),
+            (WindowIs, 3, 5, Nothing, 0, 0),
+            (Open, 0, 0, Fetch, 3, 0),
         ],
-    },
-    Script {
-        shows: "what is acknowledged is released first",
-        window: 8,
-        flight: Some((3, 6)),
-        rows: &[
-            (custody!(4), None),
-            (SHUT, Some(OutAction::Release(4))),
-            (OPEN, Some(OutAction::Release(4))),
-            (OutEvent::Released, None),
-            (OPEN, Some(OutAction::Fetch(5))),
+    ),
+    (
+        "what is acknowledged is released first",
+        8,
+        [3, 6],
+        &[
+            (Custody, 4, 0, Nothing, 0, 0),
+            (Shut, 0, 0, Release, 4, 0),
+            (Open, 0, 0, Release, 4, 0),
+            (Released, 0, 0, Nothing, 0, 0),
+            (Open, 0, 0, Fetch, 5, 0),
         ],
-    },
-    Script {
-        shows: "nothing of a flight is sent while no contact is open",
-        window: 8,
-        flight: Some((3, 6)),
-        rows: &[(SHUT, None)],
-    },
-    Script {
-        shows: "nothing is picked while no contact is open",
-        window: 8,
-        flight: Some((3, 3)),
-        rows: &[(SHUT, None)],
-    },
-    Script {
-        shows: "the flight is sent in order, and then more is picked",
-        window: 8,
-        flight: Some((3, 5)),
-        rows: &[
-            (OPEN, Some(OutAction::Fetch(3))),
-            (fetched!(3), data!(3)),
-            (OPEN, Some(OutAction::Fetch(4))),
-            (fetched!(4), data!(4)),
-            (OPEN, Some(OutAction::Pick)),
-            (OutEvent::Picked(5), None),
-            (OPEN, Some(OutAction::Fetch(5))),
+    ),
+    (
+        "nothing of a flight is sent while no contact is open",
+        8,
+        [3, 6],
+        &[(Shut, 0, 0, Nothing, 0, 0)],
+    ),
+    (
+        "nothing is picked while no contact is open",
+        8,
+        [3, 3],
+        &[(Shut, 0, 0, Nothing, 0, 0)],
+    ),
+    (
+        "the flight is sent in order, and then more is picked",
+        8,
+        [3, 5],
+        &[
+            (Open, 0, 0, Fetch, 3, 0),
+            (Fetched, 3, 0, Data, 3, 0),
+            (Open, 0, 0, Fetch, 4, 0),
+            (Fetched, 4, 0, Data, 4, 0),
+            (Open, 0, 0, Pick, 0, 0),
+            (Picked, 5, 0, Nothing, 0, 0),
+            (Open, 0, 0, Fetch, 5, 0),
         ],
-    },
-    Script {
-        shows: "what was fetched with a limit goes out with it, at the first time and again",
-        window: 8,
-        flight: Some((3, 6)),
-        rows: &[
-            (fetched!(3, 1), data!(3, 1)),
-            (fetched!(4, GREATEST), data!(4, GREATEST)),
-            (fetched!(5), data!(5)),
-            (OutEvent::Timeout, None),
-            (OPEN, Some(OutAction::Fetch(3))),
-            (fetched!(3, 1), data!(3, 1)),
+    ),
+    (
+        "what was fetched with a limit goes out with it, at the first time and again",
+        8,
+        [3, 6],
+        &[
+            (Fetched, 3, 1, Data, 3, 1),
+            (Fetched, 4, GREATEST, Data, 4, GREATEST),
+            (Fetched, 5, 0, Data, 5, 0),
+            (Timeout, 0, 0, Nothing, 0, 0),
+            (Open, 0, 0, Fetch, 3, 0),
+            (Fetched, 3, 1, Data, 3, 1),
         ],
-    },
-    Script {
-        shows: "a window of one picks nothing once two are sent",
-        window: 1,
-        flight: Some((3, 5)),
-        rows: &[
-            (fetched!(3), data!(3)),
-            (fetched!(4), data!(4)),
-            (OPEN, None),
+    ),
+    (
+        "a window of one picks nothing once two are sent",
+        1,
+        [3, 5],
+        &[
+            (Fetched, 3, 0, Data, 3, 0),
+            (Fetched, 4, 0, Data, 4, 0),
+            (Open, 0, 0, Nothing, 0, 0),
         ],
-    },
-    Script {
-        shows: "a window of two picks nothing once two are sent",
-        window: 2,
-        flight: Some((3, 5)),
-        rows: &[
-            (fetched!(3), data!(3)),
-            (fetched!(4), data!(4)),
-            (OPEN, None),
+    ),
+    (
+        "a window of two picks nothing once two are sent",
+        2,
+        [3, 5],
+        &[
+            (Fetched, 3, 0, Data, 3, 0),
+            (Fetched, 4, 0, Data, 4, 0),
+            (Open, 0, 0, Nothing, 0, 0),
         ],
-    },
-    Script {
-        shows: "a window of three picks once two are sent",
-        window: 3,
-        flight: Some((3, 5)),
-        rows: &[
-            (fetched!(3), data!(3)),
-            (fetched!(4), data!(4)),
-            (OPEN, Some(OutAction::Pick)),
+    ),
+    (
+        "a window of three picks once two are sent",
+        3,
+        [3, 5],
+        &[
+            (Fetched, 3, 0, Data, 3, 0),
+            (Fetched, 4, 0, Data, 4, 0),
+            (Open, 0, 0, Pick, 0, 0),
         ],
-    },
-    Script {
-        shows: "a window begins anew",
-        window: 8,
-        flight: Some((3, 6)),
-        rows: &[
-            (fetched!(3), data!(3)),
-            (custody!(3), None),
-            (OutEvent::WindowIs { first: 7, next: 9 }, None),
-            (OPEN, Some(OutAction::Fetch(7))),
-            (OutEvent::WindowIs { first: 9, next: 7 }, None),
-            (OPEN, Some(OutAction::Fetch(7))),
+    ),
+    (
+        "a window begins anew",
+        8,
+        [3, 6],
+        &[
+            (Fetched, 3, 0, Data, 3, 0),
+            (Custody, 3, 0, Nothing, 0, 0),
+            (WindowIs, 7, 9, Nothing, 0, 0),
+            (Open, 0, 0, Fetch, 7, 0),
+            (WindowIs, 9, 7, Nothing, 0, 0),
+            (Open, 0, 0, Fetch, 7, 0),
         ],
-    },
-    Script {
-        shows: "another number is no pick",
-        window: 8,
-        flight: Some((3, 3)),
-        rows: &[
-            (OutEvent::Picked(4), None),
-            (OutEvent::Picked(2), None),
-            (OPEN, Some(OutAction::Pick)),
+    ),
+    (
+        "another number is no pick",
+        8,
+        [3, 3],
+        &[
+            (Picked, 4, 0, Nothing, 0, 0),
+            (Picked, 2, 0, Nothing, 0, 0),
+            (Open, 0, 0, Pick, 0, 0),
         ],
-    },
-    Script {
-        shows: "the last number of 64 bits is no pick",
-        window: 8,
-        flight: Some((u64::MAX, u64::MAX)),
-        rows: &[
-            (OutEvent::Picked(u64::MAX), None),
-            (OPEN, Some(OutAction::Pick)),
+    ),
+    (
+        "the last number of 64 bits is no pick",
+        8,
+        [LAST, LAST],
+        &[(Picked, LAST, 0, Nothing, 0, 0), (Open, 0, 0, Pick, 0, 0)],
+    ),
+    (
+        "a core that is not ready has no pick",
+        8,
+        [0, 0],
+        &[(Picked, 1, 0, Nothing, 0, 0), (Open, 0, 0, AskWindow, 0, 0)],
+    ),
+    (
+        "another payload is not sent",
+        8,
+        [3, 6],
+        &[
+            (Fetched, 4, 0, Nothing, 0, 0),
+            (Fetched, 2, 0, Nothing, 0, 0),
+            (Open, 0, 0, Fetch, 3, 0),
         ],
-    },
-    Script {
-        shows: "a core that is not ready has no pick",
-        window: 8,
-        flight: None,
-        rows: &[
-            (OutEvent::Picked(1), None),
-            (OPEN, Some(OutAction::AskWindow)),
+    ),
+    (
+        "none is sent of an empty flight",
+        8,
+        [3, 3],
+        &[(Fetched, 3, 0, Nothing, 0, 0)],
+    ),
+    (
+        "none is sent by a core that is not ready",
+        8,
+        [0, 0],
+        &[(Fetched, 1, 0, Nothing, 0, 0)],
+    ),
+    (
+        "a release moves the flight",
+        8,
+        [3, 6],
+        &[
+            (Custody, 4, 0, Nothing, 0, 0),
+            (Released, 0, 0, Nothing, 0, 0),
+            (Open, 0, 0, Fetch, 5, 0),
         ],
-    },
-    Script {
-        shows: "another payload is not sent",
-        window: 8,
-        flight: Some((3, 6)),
-        rows: &[
-            (fetched!(4), None),
-            (fetched!(2), None),
-            (OPEN, Some(OutAction::Fetch(3))),
+    ),
+    (
+        "a release that changes nothing moves the flight",
+        8,
+        [3, 6],
+        &[
+            (Custody, 4, 0, Nothing, 0, 0),
+            (Unchanged, 0, 0, Nothing, 0, 0),
+            (Open, 0, 0, Fetch, 5, 0),
         ],
-    },
-    Script {
-        shows: "none is sent of an empty flight",
-        window: 8,
-        flight: Some((3, 3)),
-        rows: &[(fetched!(3), None)],
-    },
-    Script {
-        shows: "none is sent by a core that is not ready",
-        window: 8,
-        flight: None,
-        rows: &[(fetched!(1), None)],
-    },
-    Script {
-        shows: "a release moves the flight",
-        window: 8,
-        flight: Some((3, 6)),
-        rows: &[
-            (custody!(4), None),
-            (OutEvent::Released, None),
-            (OPEN, Some(OutAction::Fetch(5))),
+    ),
+    (
+        "a release leaves a cursor behind it",
+        8,
+        [3, 6],
+        &[
+            (Fetched, 3, 0, Data, 3, 0),
+            (Fetched, 4, 0, Data, 4, 0),
+            (Custody, 3, 0, Nothing, 0, 0),
+            (Released, 0, 0, Nothing, 0, 0),
+            (Open, 0, 0, Fetch, 5, 0),
         ],
-    },
-    Script {
-        shows: "a release that changes nothing moves the flight",
-        window: 8,
-        flight: Some((3, 6)),
-        rows: &[
-            (custody!(4), None),
-            (OutEvent::Unchanged, None),
-            (OPEN, Some(OutAction::Fetch(5))),
+    ),
+    (
+        "a core that is not ready hears no custody",
+        8,
+        [0, 0],
+        &[
+            (Custody, 1, 0, Nothing, 0, 0),
+            (Open, 0, 0, AskWindow, 0, 0),
         ],
-    },
-    Script {
-        shows: "a release leaves a cursor behind it",
-        window: 8,
-        flight: Some((3, 6)),
-        rows: &[
-            (fetched!(3), data!(3)),
-            (fetched!(4), data!(4)),
-            (custody!(3), None),
-            (OutEvent::Released, None),
-            (OPEN, Some(OutAction::Fetch(5))),
+    ),
+    (
+        "the greatest custody counts, where it comes first",
+        8,
+        [3, 6],
+        &[
+            (Custody, 5, 0, Nothing, 0, 0),
+            (Custody, 3, 0, Nothing, 0, 0),
+            (Open, 0, 0, Release, 5, 0),
         ],
-    },
-    Script {
-        shows: "a core that is not ready hears no custody",
-        window: 8,
-        flight: None,
-        rows: &[(custody!(1), None), (OPEN, Some(OutAction::AskWindow))],
-    },
-    Script {
-        shows: "the greatest custody counts, where it comes first",
-        window: 8,
-        flight: Some((3, 6)),
-        rows: &[
-            (custody!(5), None),
-            (custody!(3), None),
-            (OPEN, Some(OutAction::Release(5))),
+    ),
+    (
+        "the greatest custody counts, where it comes last",
+        8,
+        [3, 6],
+        &[
+            (Custody, 3, 0, Nothing, 0, 0),
+            (Custody, 5, 0, Nothing, 0, 0),
+            (Open, 0, 0, Release, 5, 0),
         ],
-    },
-    Script {
-        shows: "the greatest custody counts, where it comes last",
-        window: 8,
-        flight: Some((3, 6)),
-        rows: &[
-            (custody!(3), None),
-            (custody!(5), None),
-            (OPEN, Some(OutAction::Release(5))),
+    ),
+    (
+        "a timeout sends the flight again",
+        8,
+        [3, 6],
+        &[
+            (Fetched, 3, 0, Data, 3, 0),
+            (Fetched, 4, 0, Data, 4, 0),
+            (Timeout, 0, 0, Nothing, 0, 0),
+            (Open, 0, 0, Fetch, 3, 0),
         ],
-    },
-    Script {
-        shows: "a timeout sends the flight again",
-        window: 8,
-        flight: Some((3, 6)),
-        rows: &[
-            (fetched!(3), data!(3)),
-            (fetched!(4), data!(4)),
-            (OutEvent::Timeout, None),
-            (OPEN, Some(OutAction::Fetch(3))),
+    ),
+    (
+        "other events change nothing",
+        8,
+        [3, 6],
+        &[
+            (Fetched, 3, 0, Data, 3, 0),
+            (NothingFound, 0, 0, Nothing, 0, 0),
+            (OtherAnswer, 0, 0, Nothing, 0, 0),
+            (Open, 0, 0, Fetch, 4, 0),
         ],
-    },
-    Script {
-        shows: "other events change nothing",
-        window: 8,
-        flight: Some((3, 6)),
-        rows: &[
-            (fetched!(3), data!(3)),
-            (OutEvent::Nothing, None),
-            (OutEvent::Other, None),
-            (
-                OutEvent::Heard(Message::Data {
-                    from: HOP,
-                    to: OWN,
-                    number: 4,
-                    limit: 0,
-                    payload: PAYLOAD,
-                }),
-                None,
-            ),
-            (
-                OutEvent::Heard(Message::Refused {
-                    from: HOP,
-                    to: OWN,
-                    number: 4,
-                    refusal: 6,
-                }),
-                None,
-            ),
-            (
-                OutEvent::Heard(Message::Heard {
-                    from: HOP,
-                    to: OWN,
-                    last: 3,
-                    bits: 0x8000_0000_0000_0000,
-                }),
-                None,
-            ),
-            (OPEN, Some(OutAction::Fetch(4))),
+    ),
+    (
+        "an answer without a release moves nothing",
+        8,
+        [3, 6],
+        &[
+            (Released, 0, 0, Nothing, 0, 0),
+            (Unchanged, 0, 0, Nothing, 0, 0),
+            (Open, 0, 0, Fetch, 3, 0),
         ],
-    },
+    ),
+    (
+        "custody outside of the flight is ignored",
+        8,
+        [3, 6],
+        &[
+            (Custody, 2, 0, Nothing, 0, 0),
+            (Custody, 6, 0, Nothing, 0, 0),
+            (Open, 0, 0, Fetch, 3, 0),
+        ],
+    ),
 ];
 
 /// A core with a window, and with a flight if it is ready.
-fn core_of(window: u64, flight: Option<(u64, u64)>) -> Sending {
+fn core_of(window: u64, [first, next]: [u64; 2]) -> Sending {
     let mut core = Sending::new(OWN, HOP, window);
-    if let Some((first, next)) = flight {
-        let _ = core.step(OutEvent::WindowIs { first, next });
+    if first > 0 {
+        let _ = core.step(event(WindowIs, first, next));
     }
     core
 }
 
 /// Checks the actions of a core against a script.
-fn names<R: Abort>(rt: &R, script: &Script) {
-    let mut core = core_of(script.window, script.flight);
-    for (index, (event, named)) in script.rows.iter().enumerate() {
-        expect_row(rt, core.step(*event) == *named, script.shows, index as u64);
+fn names<R: Abort>(rt: &R, (shows, window, flight, rows): Script) {
+    let mut core = core_of(window, flight);
+    for (index, (told, number, second, named, third, limit)) in rows.iter().enumerate() {
+        let found = core.step(event(*told, *number, *second));
+        expect_row(
+            rt,
+            found == action(*named, *third, *limit),
+            shows,
+            index as u64,
+        );
     }
 }
 
 fn names_each(rt: &impl Abort, scripts: &[Script]) {
     for script in scripts {
-        names(rt, script);
+        names(rt, *script);
     }
 }
 
@@ -371,191 +396,203 @@ fn each_script_is_followed(rt: HostRuntime) {
     names_each(&rt, &SCRIPTS);
 }
 
-/// An event on a core whose flight is from 3 to 5, and the action of its next turn.
-const AFTER: [Row; 20] = [
-    // an answer without a release moves nothing
-    (OutEvent::Released, Some(OutAction::Fetch(3))),
-    (OutEvent::Unchanged, Some(OutAction::Fetch(3))),
-    // custody outside the flight is ignored, as is one between other stations
-    (custody!(2), Some(OutAction::Fetch(3))),
-    (custody!(6), Some(OutAction::Fetch(3))),
-    (custody!(OTHER, OWN, 4), Some(OutAction::Fetch(3))),
-    (custody!(HOP, OTHER, 4), Some(OutAction::Fetch(3))),
-    (custody!(OWN, HOP, 4), Some(OutAction::Fetch(3))),
-    // five refusals ask for the window again
-    (
-        OutEvent::Refused(Refusal::NeverSent),
-        Some(OutAction::AskWindow),
-    ),
-    (
-        OutEvent::Refused(Refusal::NotInFlight),
-        Some(OutAction::AskWindow),
-    ),
-    (
-        OutEvent::Refused(Refusal::Broken),
-        Some(OutAction::AskWindow),
-    ),
-    (
-        OutEvent::Refused(Refusal::Unsure),
-        Some(OutAction::AskWindow),
-    ),
-    (OutEvent::Refused(Refusal::Lost), Some(OutAction::AskWindow)),
-    // others change nothing
-    (
-        OutEvent::Refused(Refusal::NoSuchHop),
-        Some(OutAction::Fetch(3)),
-    ),
-    (
-        OutEvent::Refused(Refusal::BadMoment),
-        Some(OutAction::Fetch(3)),
-    ),
-    (
-        OutEvent::Refused(Refusal::WindowFull),
-        Some(OutAction::Fetch(3)),
-    ),
-    (OutEvent::Refused(Refusal::Empty), Some(OutAction::Fetch(3))),
-    (
-        OutEvent::Refused(Refusal::DeviceRead),
-        Some(OutAction::Fetch(3)),
-    ),
-    (
-        OutEvent::Refused(Refusal::OutOfMemory),
-        Some(OutAction::Fetch(3)),
-    ),
-    (OutEvent::Refused(Refusal::Spent), Some(OutAction::Fetch(3))),
-    (
-        OutEvent::Refused(Refusal::Closed),
-        Some(OutAction::Fetch(3)),
-    ),
+/// What says nothing to a core whose flight is from 3 to 5: custody of number 4 of another station, for another station,
+/// and from this one to the hop's; and a Data, a Refused and a Heard of the hop's station.
+const STRAYS: [&[u8]; 6] = [
+    b"\x52\x4c\x01\x02\x00\x09\x00\x03\x00\x00\x00\x00\x00\x00\x00\x04",
+    b"\x52\x4c\x01\x02\x00\x07\x00\x09\x00\x00\x00\x00\x00\x00\x00\x04",
+    b"\x52\x4c\x01\x02\x00\x03\x00\x07\x00\x00\x00\x00\x00\x00\x00\x04",
+    b"\x52\x4c\x01\x01\x00\x07\x00\x03\x00\x00\x00\x00\x00\x00\x00\x04\x00\x03\x00\x0c\x41",
+    b"\x52\x4c\x01\x03\x00\x07\x00\x03\x00\x00\x00\x00\x00\x00\x00\x04\x06",
+    b"\x52\x4c\x01\x05\x00\x07\x00\x03\x00\x00\x00\x00\x00\x00\x00\x03\x80\x00\x00\x00\x00\x00\x00\x00",
 ];
 
-/// Checks the action of a core's next turn after an event.
-fn next_after<R: Abort>(rt: &R, row: u64, (event, named): &Row) {
-    let mut core = core_of(8, Some((3, 6)));
-    let _ = core.step(*event);
-    expect_row(rt, core.step(OPEN) == *named, "the next turn", row);
+/// Checks that a core that has sent 3 requests nothing on these packets, and the Fetch of 4 in its next turn.
+fn ignores(rt: &impl Abort, packets: &[&[u8]]) {
+    let mut core = core_of(8, [3, 6]);
+    let _ = core.step(event(Fetched, 3, 0));
+    for (index, packet) in packets.iter().enumerate() {
+        let found = match read_message(packet) {
+            Ok(message) => core.step(OutEvent::Heard(message)),
+            Err(_) => panic!(rt; "a message"),
+        };
+        expect_row(
+            rt,
+            found == None,
+            "other packets change nothing",
+            index as u64,
+        );
+    }
+    let next = core.step(event(Open, 0, 0));
+    expect_row(rt, next == action(Fetch, 4, 0), "the next turn", 6);
 }
 
-fn next_after_each(rt: &impl Abort, rows: &[Row]) {
+#[test]
+fn other_packets_change_nothing(rt: HostRuntime) {
+    ignores(&rt, &STRAYS);
+}
+
+/// A refusal told to a core whose flight is from 3 to 5, and whether it asks for the window in its next turn.
+const REFUSALS: [(Refusal, bool); 13] = [
+    (Refusal::NeverSent, true),
+    (Refusal::NotInFlight, true),
+    (Refusal::Broken, true),
+    (Refusal::Unsure, true),
+    (Refusal::Lost, true),
+    (Refusal::NoSuchHop, false),
+    (Refusal::BadMoment, false),
+    (Refusal::WindowFull, false),
+    (Refusal::Empty, false),
+    (Refusal::DeviceRead, false),
+    (Refusal::OutOfMemory, false),
+    (Refusal::Spent, false),
+    (Refusal::Closed, false),
+];
+
+/// Checks the action of a core's next turn after a refusal.
+fn next_after<R: Abort>(rt: &R, row: u64, (refusal, asks): (Refusal, bool)) {
+    let mut core = core_of(8, [3, 6]);
+    let _ = core.step(OutEvent::Refused(refusal));
+    let named = if asks { AskWindow } else { Fetch };
+    let found = core.step(event(Open, 0, 0));
+    expect_row(rt, found == action(named, 3, 0), "the next turn", row);
+}
+
+fn next_after_each(rt: &impl Abort, rows: &[(Refusal, bool)]) {
     for (index, row) in rows.iter().enumerate() {
-        next_after(rt, index as u64, row);
+        next_after(rt, index as u64, *row);
     }
 }
 
 #[test]
-fn events_are_followed_by_a_turn(rt: HostRuntime) {
-    next_after_each(&rt, &AFTER);
+fn refusals_are_followed_by_a_turn(rt: HostRuntime) {
+    next_after_each(&rt, &REFUSALS);
 }
 
 /// An event on a core whose flight is from 3 to 5, and whether a number is acknowledged after it.
-const ACKNOWLEDGED: [(OutEvent<&'static [u8]>, bool); 4] = [
-    (custody!(6), false),
-    (custody!(4), true),
-    (OutEvent::Timeout, true),
-    (OutEvent::Released, false),
+const ACKNOWLEDGED: [(Told, u64, bool); 4] = [
+    (Custody, 6, false),
+    (Custody, 4, true),
+    (Timeout, 0, true),
+    (Released, 0, false),
 ];
 
 /// An acknowledged number waits for its release. A core gets only these events, and requests nothing on them.
-fn acknowledges<R: Abort>(rt: &R) {
-    let mut core = core_of(8, Some((3, 6)));
-    for (index, (event, is_acknowledged)) in ACKNOWLEDGED.iter().enumerate() {
-        expect_row(
-            rt,
-            core.step(*event) == None,
-            "nothing is named",
-            index as u64,
-        );
-        expect_row(
-            rt,
-            core.has_acknowledged() == *is_acknowledged,
-            "it waits",
-            index as u64,
-        );
+fn acknowledges<R: Abort>(rt: &R, rows: &[(Told, u64, bool)]) {
+    let mut core = core_of(8, [3, 6]);
+    for (told, number, is_acknowledged) in rows {
+        let found = core.step(event(*told, *number, 0));
+        let holds = found == None && core.has_acknowledged() == *is_acknowledged;
+        expect(rt, holds, "it waits for its release");
     }
 }
 
 #[test]
 fn what_is_acknowledged_waits_for_its_release(rt: HostRuntime) {
-    acknowledges(&rt);
+    acknowledges(&rt, &ACKNOWLEDGED);
 }
 
-/// A number, the limit with which it is to be sent again, and the action that does so.
-type Repeat = (u64, u64, Option<OutAction<&'static [u8]>>);
+/// What these show, events on a core whose flight is from 3 to 6, numbers that are to be sent again after them, each with
+/// its limit and whether it is, and the action of the turn after them with its number.
+type Repeats = (
+    &'static str,
+    &'static [Event],
+    &'static [(u64, u64, bool)],
+    Named,
+    u64,
+);
 
-/// Numbers to be sent again after these events, and the action of the turn after them.
-struct Repeats {
-    shows: &'static str,
-    events: &'static [OutEvent<&'static [u8]>],
-    rows: &'static [Repeat],
-    turn: OutAction<&'static [u8]>,
-}
-
-/// On a core whose flight is from 3 to 6.
 const REPEATS: [Repeats; 6] = [
-    Repeats {
-        shows: "below the cursor a number is sent again, and the cursor stays",
-        events: &[fetched!(3, 1), fetched!(4)],
-        rows: &[
-            (3, 1, data!(3, 1)),
-            (4, 0, data!(4)),
-            (4, GREATEST, data!(4, GREATEST)),
-            (3, 1, data!(3, 1)),
+    (
+        "below the cursor a number is sent again, and the cursor stays",
+        &[(Fetched, 3, 1), (Fetched, 4, 0)],
+        &[
+            (3, 1, true),
+            (4, 0, true),
+            (4, GREATEST, true),
+            (3, 1, true),
         ],
-        turn: OutAction::Fetch(5),
-    },
-    Repeats {
-        shows: "from the cursor on none is sent again",
-        events: &[fetched!(3), fetched!(4)],
-        rows: &[
-            (5, 0, None),
-            (6, 0, None),
-            (7, 0, None),
-            (u64::MAX, 0, None),
+        Fetch,
+        5,
+    ),
+    (
+        "from the cursor on none is sent again",
+        &[(Fetched, 3, 0), (Fetched, 4, 0)],
+        &[
+            (5, 0, false),
+            (6, 0, false),
+            (7, 0, false),
+            (LAST, 0, false),
         ],
-        turn: OutAction::Fetch(5),
-    },
-    Repeats {
-        shows: "below the flight none is sent again",
-        events: &[fetched!(3), fetched!(4)],
-        rows: &[(2, 0, None), (0, 0, None)],
-        turn: OutAction::Fetch(5),
-    },
-    Repeats {
-        shows: "what was released is not sent again",
-        events: &[fetched!(3), fetched!(4), custody!(3), OutEvent::Released],
-        rows: &[(3, 0, None), (4, 0, data!(4))],
-        turn: OutAction::Fetch(5),
-    },
-    Repeats {
-        shows: "after a timeout only what was sent since is sent again",
-        events: &[fetched!(3), fetched!(4), OutEvent::Timeout, fetched!(3)],
-        rows: &[(3, 0, data!(3)), (4, 0, None)],
-        turn: OutAction::Fetch(4),
-    },
-    Repeats {
-        shows: "a core that is not ready sends none again",
-        events: &[fetched!(3), fetched!(4), OutEvent::Refused(Refusal::Broken)],
-        rows: &[(3, 0, None), (4, 0, None)],
-        turn: OutAction::AskWindow,
-    },
+        Fetch,
+        5,
+    ),
+    (
+        "below the flight none is sent again",
+        &[(Fetched, 3, 0), (Fetched, 4, 0)],
+        &[(2, 0, false), (0, 0, false)],
+        Fetch,
+        5,
+    ),
+    (
+        "what was released is not sent again",
+        &[
+            (Fetched, 3, 0),
+            (Fetched, 4, 0),
+            (Custody, 3, 0),
+            (Released, 0, 0),
+        ],
+        &[(3, 0, false), (4, 0, true)],
+        Fetch,
+        5,
+    ),
+    (
+        "after a timeout only what was sent since is sent again",
+        &[
+            (Fetched, 3, 0),
+            (Fetched, 4, 0),
+            (Timeout, 0, 0),
+            (Fetched, 3, 0),
+        ],
+        &[(3, 0, true), (4, 0, false)],
+        Fetch,
+        4,
+    ),
+    (
+        "a core that is not ready sends none again",
+        &[(Fetched, 3, 0), (Fetched, 4, 0), (Broken, 0, 0)],
+        &[(3, 0, false), (4, 0, false)],
+        AskWindow,
+        0,
+    ),
 ];
 
 /// Checks what a core sends again.
-fn sends_again<R: Abort>(rt: &R, repeats: &Repeats) {
-    let mut core = core_of(8, Some((3, 7)));
-    for event in repeats.events {
-        let _ = core.step(*event);
+fn sends_again<R: Abort>(rt: &R, (shows, events, numbers, named, number): Repeats) {
+    let mut core = core_of(8, [3, 7]);
+    for (told, number, second) in events {
+        let _ = core.step(event(*told, *number, *second));
     }
-    for (index, (number, limit, action)) in repeats.rows.iter().enumerate() {
+    for (index, (number, limit, is_sent)) in numbers.iter().enumerate() {
+        let named = if *is_sent { Data } else { Nothing };
         let again = core.repeat(*number, *limit, PAYLOAD);
-        expect_row(rt, again == *action, repeats.shows, index as u64);
+        expect_row(
+            rt,
+            again == action(named, *number, *limit),
+            shows,
+            index as u64,
+        );
     }
-    expect(rt, core.step(OPEN) == Some(repeats.turn), repeats.shows);
+    expect(
+        rt,
+        core.step(event(Open, 0, 0)) == action(named, number, 0),
+        shows,
+    );
 }
 
 fn sends_each_again(rt: &impl Abort, each: &[Repeats]) {
     for repeats in each {
-        sends_again(rt, repeats);
+        sends_again(rt, *repeats);
     }
 }
 

@@ -328,30 +328,24 @@ fn expect_once<R: Abort + Wait>(rt: &R, alloc: Global, ways: &[Way]) {
     }
 }
 
-/// If the round trip is less than a second and nothing is lost, each datagram is sent once, whatever else is
-/// received.
-#[test]
-fn each_goes_out_once(rt: HostRuntime) {
-    expect_once(&rt, rt.alloc(), &short());
-}
-
 /// A second after the first datagram was sent it is sent again. It yields no sample, but the wait is now 2 s: the
 /// second datagram is sent once, and from then on the wait is 1.5 s + 4 * 0.75 s.
 const MEASURED: [u64; 6] = [1, 1, 2, 3, 4, 5];
-
-/// If the round trip is a second and a half, one datagram is sent twice, whatever else is received.
-#[test]
-fn a_long_way_is_measured(rt: HostRuntime) {
-    expect_numbers(&rt, rt.alloc(), &of_turns(150, 10_000, 5, 1), &MEASURED);
-}
 
 /// The fourth Data is lost. The three in flight are sent again, once, one by one: station 9 takes only in order. The
 /// seventh is the one new number that goes out meanwhile, and so it follows the sixth once more.
 const AFTER_A_LOSS: [u64; 12] = [1, 2, 3, 4, 5, 6, 4, 5, 7, 6, 7, 8];
 
-/// After a loss the flight is sent again, once.
-#[test]
-fn a_loss_brings_the_window_again(rt: HostRuntime) {
+/// If the round trip is less than a second and nothing is lost, each datagram is sent once, whatever else is received. If
+/// it is a second and a half, one datagram is sent twice. After a loss the flight is sent again, once.
+fn expect_ways<R: Abort + Wait>(rt: &R, alloc: Global) {
+    expect_once(rt, alloc, &short());
+    expect_numbers(rt, alloc, &of_turns(150, 10_000, 5, 1), &MEASURED);
     let way = of_turns(2, 10_000, 8, 3);
-    let _waits = waits_of(&rt, rt.alloc(), &way, (4, &AFTER_A_LOSS), None);
+    let _waits = waits_of(rt, alloc, &way, (4, &AFTER_A_LOSS), None);
+}
+
+#[test]
+fn each_goes_out_once(rt: HostRuntime) {
+    expect_ways(&rt, rt.alloc());
 }

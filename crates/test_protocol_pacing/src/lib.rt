@@ -1,6 +1,6 @@
 //! Tests of `rly_hop_pacing` and of a sender over a link in memory: repeats, timers, windows and rates
-//! that were computed by hand from RFC 6298, RFC 6675, RFC 8985 and RFC 6928 (docs/PROTOCOL.md, "The
-//! pace of a hop"). A failure means that a hop is overrun, or waits too long. Tests only; no crate
+//! that were computed by hand from RFC 6298, RFC 6675, RFC 8985 and RFC 6928 (docs/ARCHITECTURE.md,
+//! "The pace of a hop"). A failure means that a hop is overrun, or waits too long. Tests only; no crate
 //! calls it.
 #![tactic(auto)]
 

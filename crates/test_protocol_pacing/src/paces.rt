@@ -130,12 +130,6 @@ const MISSING: [Script<'static>; 7] = [
     ),
 ];
 
-/// Exactly what is missing goes out again.
-#[test]
-fn missing(rt: HostRuntime) {
-    follow_all(&rt, &MISSING);
-}
-
 /// Of 2, 3 and 4 the last two are heard after a round trip of 400 ms, and 2 is sent again.
 const REPEATED: &[(u64, Act<'static>)] = &[
     (0, Sends(&[1])),
@@ -228,12 +222,6 @@ const SPARES: [Script<'static>; 8] = [
     ("without a rate", PLAIN, REPEATED),
 ];
 
-/// What goes out again if nothing else does.
-#[test]
-fn spares(rt: HostRuntime) {
-    follow_all(&rt, &SPARES);
-}
-
 /// Ten numbers, heard after 16 ms, and then twenty.
 const TEN_AND_TWENTY: [(u64, Act<'static>); 5] = [
     (0, Sends(&[1, 2, 3, 4, 5, 6, 7, 8, 9, 10])),
@@ -321,12 +309,6 @@ const ROOMS: [Script<'static>; 5] = [
     ),
 ];
 
-/// How much may be sent.
-#[test]
-fn rooms(rt: HostRuntime) {
-    follow_all(&rt, &ROOMS);
-}
-
 /// How much may be sent if the twenty are heard at this moment.
 const HEARD: [(u64, u64); 2] = [
     // In the shortest round, 16 ms, 20 * 16,000 / 19,999 numbers come, and twice as many may be on the way.
@@ -345,5 +327,13 @@ fn jitter(rt: HostRuntime) {
         }
         pace.on_covered(30, at);
         expect!(rt; pace.room(at) == room, at);
+    }
+}
+
+/// Exactly what is missing goes out again, what goes out again if nothing else does, and how much may be sent.
+#[test]
+fn each_script_is_followed(rt: HostRuntime) {
+    for scripts in [MISSING.as_slice(), SPARES.as_slice(), ROOMS.as_slice()] {
+        follow_all(&rt, scripts);
     }
 }

@@ -123,14 +123,10 @@ const NUMBERS: [Script<'static>; 4] = [
     ),
 ];
 
-/// A worker sleeps until a Timeout, or until there is room for what is to be sent.
+/// A worker sleeps until a Timeout, until there is room for what is to be sent, or until a number goes out again.
 #[test]
-fn sleeps_until_timeouts(rt: HostRuntime) {
-    follow_all(&rt, &TIMEOUTS);
-}
-
-/// Or until a number goes out again.
-#[test]
-fn sleeps_until_repeats(rt: HostRuntime) {
-    follow_all(&rt, &NUMBERS);
+fn each_script_is_followed(rt: HostRuntime) {
+    for scripts in [TIMEOUTS.as_slice(), NUMBERS.as_slice()] {
+        follow_all(&rt, scripts);
+    }
 }

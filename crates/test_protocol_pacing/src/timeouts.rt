@@ -370,12 +370,6 @@ const AFTER_TIMEOUTS: [Script<'static>; 15] = [
     ),
 ];
 
-/// Timeouts, and what ends their doubling.
-#[test]
-fn after_timeouts(rt: HostRuntime) {
-    follow_all(&rt, &AFTER_TIMEOUTS);
-}
-
 /// 2 and 3 go out again after a round trip of 400 ms, with a wait of 1,000 ms. The first Timeout comes after news.
 const SILENCE: &[(u64, Act<'static>)] = &[
     (0, Sends(&[1])),
@@ -432,12 +426,6 @@ const UNANSWERED: [Script<'static>; 3] = [
     ),
 ];
 
-/// Two Timeouts with nothing heard between them.
-#[test]
-fn unanswered(rt: HostRuntime) {
-    follow_all(&rt, &UNANSWERED);
-}
-
 /// As a contact opens, before anything is sent in it. The first sample of 400 ms makes a wait of 1.2 s.
 const OPENINGS: [Script<'static>; 2] = [
     (
@@ -471,8 +459,15 @@ const OPENINGS: [Script<'static>; 2] = [
     ),
 ];
 
-/// No round goes on from one contact to the next.
+/// Timeouts and what ends their doubling, two with nothing heard between them, and that no round goes on from one contact to
+/// the next.
 #[test]
-fn openings(rt: HostRuntime) {
-    follow_all(&rt, &OPENINGS);
+fn each_script_is_followed(rt: HostRuntime) {
+    for scripts in [
+        AFTER_TIMEOUTS.as_slice(),
+        UNANSWERED.as_slice(),
+        OPENINGS.as_slice(),
+    ] {
+        follow_all(&rt, scripts);
+    }
 }

@@ -1,6 +1,6 @@
 //! Tests of the submission queue and of the committer, and of relays of workers: callers in threads
 //! of their own, each with a seat, put their calls, and workers run to their end. Answers and results
-//! are compared with hand-written rows (docs/DEFINITIONS.md, docs/PROTOCOL.md). No contract says that
+//! are compared with hand-written rows (docs/reference/DEFINITIONS.md, docs/PROTOCOL.md). No contract says that
 //! a thread runs or that a message arrives; these tests fail if one doesn't.
 #![tactic(auto)]
 
@@ -36,6 +36,8 @@ mod pauses;
 mod relayed;
 #[cfg(test)]
 mod relays;
+#[cfg(test)]
+mod rests;
 #[cfg(test)]
 mod rounds;
 #[cfg(test)]

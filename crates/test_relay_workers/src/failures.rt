@@ -6,10 +6,9 @@
 //! continues as if it had been sent.
 
 use crate::script::{
-    ANY, Counts, Done, EMPTY, OF_7, OF_9, OF_10, RECEIVER, SENDER, Script, TO_7, TO_9, TO_10,
+    ANY, Counts, Done, EMPTY, OF_7, OF_9, OF_10, RECEIVER, SENDER, Script, TO_7, TO_10,
     expect_script, expect_scripts,
 };
-use crate::senders::{Case, expect_senders};
 use crate::workers::Spool;
 use rly_core::HopId;
 use rly_link::Worker;
@@ -148,55 +147,13 @@ fn expect_workers<R: Abort + Wait>(rt: &R, alloc: Global, rows: &[Failing]) {
     for row in rows {
         expect_calls(rt, alloc, row);
     }
+    expect_scripts(rt, alloc, &ACKNOWLEDGED);
 }
 
-/// Whichever call fails, a worker continues.
+/// Whichever call fails, a worker continues. Only a second hop's own station acknowledges for it.
 #[test]
 fn a_worker_goes_on(rt: HostRuntime) {
     expect_workers(&rt, rt.alloc(), &ROWS);
-}
-
-const AGAIN: [Case<'static>; 3] = [
-    (
-        "the first send fails, and is made again after the next timeout",
-        [1, 1, 1_000, 100_000, 0, 4],
-        &[],
-        &[(0, TO_9, &[1])],
-        &[
-            (3, [ANY, 0, ANY, ANY], [0, 1, 0]),
-            (12, [ANY, 0, ANY, ANY], [0, 1, 0]),
-            (13, [ANY, 1, ANY, ANY], [0, 1, 0]),
-        ],
-    ),
-    (
-        "the second send fails",
-        [1, 1, 1_000, 100_000, 0, 15],
-        &[],
-        &[(0, TO_9, &[1, 1])],
-        &[
-            (13, [ANY, 1, ANY, ANY], [0, 1, 0]),
-            (32, [ANY, 1, ANY, ANY], [0, 1, 0]),
-            (33, [ANY, 2, ANY, ANY], [0, 1, 0]),
-        ],
-    ),
-    (
-        "the third send fails",
-        [1, 1, 1_000, 100_000, 0, 36],
-        &[],
-        &[(0, TO_9, &[1, 1, 1])],
-        &[
-            (33, [ANY, 2, ANY, ANY], [0, 1, 0]),
-            (72, [ANY, 2, ANY, ANY], [0, 1, 0]),
-            (73, [ANY, 3, ANY, ANY], [0, 1, 0]),
-        ],
-    ),
-];
-
-/// A datagram is sent in turn 3, and again one, two and four seconds after it was last sent, in turns 13, 33 and
-/// 73.
-#[test]
-fn a_send_that_fails_is_made_again(rt: HostRuntime) {
-    expect_senders(&rt, rt.alloc(), &AGAIN);
 }
 
 /// It has sent its datagram twice before it receives a custody.
@@ -214,9 +171,3 @@ const ACKNOWLEDGED: [Script<'static>; 2] = [
         ..AT_HOP_2
     },
 ];
-
-/// Only a second hop's own station acknowledges for it.
-#[test]
-fn second_hop_is_acknowledged_by_its_own_station(rt: HostRuntime) {
-    expect_scripts(&rt, rt.alloc(), &ACKNOWLEDGED);
-}

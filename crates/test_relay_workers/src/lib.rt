@@ -1,6 +1,6 @@
 //! Tests of the workers, each over a link, a journal client (`Desk`) and a clock in memory: a
 //! worker runs for a number of turns, and its sent packets and requests are compared with
-//! hand-written tables (docs/DEFINITIONS.md, docs/PROTOCOL.md).
+//! hand-written tables (docs/reference/DEFINITIONS.md, docs/PROTOCOL.md).
 #![tactic(auto)]
 
 /// Like `assert!`, as one call: the prover then sees one path instead of two. `assert!` is used if the text names a
@@ -16,10 +16,6 @@ macro_rules! expect {
 mod expect;
 #[cfg(test)]
 mod failures;
-#[cfg(test)]
-mod limits;
-#[cfg(test)]
-mod memory;
 #[cfg(test)]
 mod receivers;
 #[cfg(test)]

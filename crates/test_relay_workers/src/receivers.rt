@@ -1,7 +1,7 @@
 //! A receiving worker.
 
-use crate::script::{ANY, OF_7, RECEIVER, Row, Script, TO_7, expect_each, expect_script};
-use crate::workers::{Packets, REST_LEADS_BACK, Spool, WITH_REST};
+use crate::script::{ANY, OF_7, RECEIVER, Row, Script, TO_7, expect_script};
+use crate::workers::{Packets, Spool};
 use rly_core::Params;
 use std::alloc::Global;
 use std::process::Abort;
@@ -127,106 +127,6 @@ const ANSWERED: [Case<'static>; 6] = [
     ),
 ];
 
-/// A received packet is answered as each case says.
-#[test]
-fn what_is_heard_is_answered(rt: HostRuntime) {
-    expect_receivers(&rt, rt.alloc(), &ANSWERED);
-}
-
-/// One that is answered and not stored.
-const NOT_TAKEN: Script<'static> = Script {
-    shows: "a datagram that isn't taken",
-    sent: &[(0, NO_ROUTE, &[1])],
-    woken: (0, 0),
-    rows: &[(2, [1, 1, 2, 4], [0, 0, 0])],
-    ..RECEIVER
-};
-
-/// A packet that isn't received.
-const UNHEARD: Script<'static> = Script {
-    shows: "a packet that isn't heard",
-    woken: (0, 0),
-    rows: &[(2, [0, 0, 2, 3], [0, 0, 0])],
-    ..RECEIVER
-};
-
-/// Two destinations with no route, no destination, and half of one.
-const WITHOUT_ROUTE: [&[Packets<'static>]; 4] = [
-    &[(
-        0,
-        b"\x52\x4c\x01\x01\x00\x03\x00\x07\x00\x00\x00\x00\x00\x00\x00\x01\x00\x02\xff\xff",
-        &[1],
-    )],
-    &[(0, TO_13, &[1])],
-    &[(
-        0,
-        b"\x52\x4c\x01\x01\x00\x03\x00\x07\x00\x00\x00\x00\x00\x00\x00\x01\x00\x00",
-        &[1],
-    )],
-    &[(
-        0,
-        b"\x52\x4c\x01\x01\x00\x03\x00\x07\x00\x00\x00\x00\x00\x00\x00\x01\x00\x01\x0c",
-        &[1],
-    )],
-];
-
-#[test]
-fn what_has_no_route_is_refused(rt: HostRuntime) {
-    expect_each(&rt, rt.alloc(), &[NOT_TAKEN], &WITHOUT_ROUTE);
-}
-
-/// The same where hop 1 is the rest's: it is stored for it.
-const IN_THE_REST: Script<'static> = Script {
-    shows: "a datagram of the rest",
-    plan: WITH_REST,
-    rows: &[(2, [1, 1, 2, 4], [1, 0, 0])],
-    ..RECEIVER
-};
-
-#[test]
-fn what_has_no_route_takes_that_of_the_rest(rt: HostRuntime) {
-    for heard in &WITHOUT_ROUTE {
-        let length = heard[0].1.len() as u64 - 18;
-        let script = Script {
-            heard: *heard,
-            length,
-            ..IN_THE_REST
-        };
-        expect_script(&rt, rt.alloc(), &script);
-    }
-}
-
-/// The same where the rest's hop leads to the station that gives it: it is refused as one without a route.
-const LED_BACK: Script<'static> = Script {
-    shows: "a datagram of the rest that would go back",
-    plan: REST_LEADS_BACK,
-    ..NOT_TAKEN
-};
-
-#[test]
-fn the_rest_never_leads_back(rt: HostRuntime) {
-    expect_each(&rt, rt.alloc(), &[LED_BACK], &WITHOUT_ROUTE);
-}
-
-/// Another station's data, and a packet that is too short for a message.
-const STRAYS: [&[Packets<'static>]; 2] = [
-    &[(
-        0,
-        b"\x52\x4c\x01\x01\x00\x04\x00\x07\x00\x00\x00\x00\x00\x00\x00\x01\x00\x03\x00\x0c\x41",
-        &[1],
-    )],
-    &[(
-        0,
-        b"\x52\x4c\x01\x01\x00\x03\x00\x07\x00\x00\x00\x00\x00\x00\x00\x01\x00\x03\x00\x0c",
-        &[1],
-    )],
-];
-
-#[test]
-fn strays_are_not_heard(rt: HostRuntime) {
-    expect_each(&rt, rt.alloc(), &[UNHEARD], &STRAYS);
-}
-
 /// Numbers 1 to 70.
 const SEVENTY: &[u8] = &[
     1, 2, 3, 4, 5, 6, 7, 8, 9, 10, 11, 12, 13, 14, 15, 16, 17, 18, 19, 20, 21, 22, 23, 24, 25, 26,
@@ -253,12 +153,6 @@ const WINDOWS: [Case<'static>; 2] = [
         &[(2, [70, 2, 2, 73], [70, 0, 0])],
     ),
 ];
-
-/// A window is taken in one turn, by one receive that waits, and one custody is sent: that of the greatest number.
-#[test]
-fn a_window_is_taken_in_one_turn(rt: HostRuntime) {
-    expect_receivers(&rt, rt.alloc(), &WINDOWS);
-}
 
 /// A datagram comes three times in one turn.
 const WAKES: [Case<'static>; 4] = [
@@ -296,8 +190,19 @@ const WAKES: [Case<'static>; 4] = [
     ),
 ];
 
-/// The worker wakes the hop's sender for each stored datagram, and for no other.
+/// A received packet is answered as each case says. A window is taken in one turn, by one receive that waits, and one
+/// custody is sent: that of the greatest number. The worker wakes the hop's sender for each stored datagram, and for no
+/// other.
+const TABLES: [&[Case<'static>]; 3] = [&ANSWERED, &WINDOWS, &WAKES];
+
+/// Checks the receivers of each table.
+fn expect_tables<R: Abort + Wait>(rt: &R, alloc: Global, tables: &[&[Case]]) {
+    for cases in tables {
+        expect_receivers(rt, alloc, *cases);
+    }
+}
+
 #[test]
-fn what_is_taken_wakes_its_sender(rt: HostRuntime) {
-    expect_receivers(&rt, rt.alloc(), &WAKES);
+fn each_receiver_does_as_its_case_says(rt: HostRuntime) {
+    expect_tables(&rt, rt.alloc(), &TABLES);
 }

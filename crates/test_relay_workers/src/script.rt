@@ -1,8 +1,6 @@
 //! Workers whose turns follow a script, and checks of their effects.
 
-use crate::workers::{
-    Counting, Losing, MemEnds, PLAN, Packets, Spool, are_sent, link, machine, plan,
-};
+use crate::workers::{Counting, Losing, MemEnds, Packets, Spool, are_sent, link, machine, plan};
 use rly_core::{HopId, Params, PeerId, Refusal};
 use rly_link::{Link, MemTurn, Worker};
 use rly_machine::{Machine, Payload, Reply};
@@ -42,6 +40,9 @@ pub(super) const TO_10: &[u8] =
 
 pub(super) const OF_10: &[u8] = b"\x52\x4c\x01\x02\x00\x0a\x00\x07\x00\x00\x00\x00\x00\x00\x00\x01";
 
+/// The length of each datagram.
+const LENGTH: u64 = 3;
+
 /// A number that a row leaves open.
 pub(super) const ANY: u64 = u64::MAX;
 
@@ -59,7 +60,6 @@ pub(super) type Row = (u64, Done, Counts);
 #[derive(Drop)]
 pub(super) struct Script<'a> {
     pub(super) shows: &'a str,
-    pub(super) plan: &'a str,
     pub(super) worker: Worker,
     pub(super) spool: Spool,
     /// The window of a sender.
@@ -78,8 +78,6 @@ pub(super) struct Script<'a> {
     pub(super) sent: &'a [Packets<'a>],
     /// The counts of the other hop, which is hop 1 for a sender to hop 2, and else hop 2.
     pub(super) other: Counts,
-    /// The length of each datagram.
-    pub(super) length: u64,
     /// The number of times that a sender was woken, and the hop of the last, 0 for none.
     pub(super) woken: (u64, u16),
     pub(super) rows: &'a [Row],
@@ -105,7 +103,6 @@ pub(super) const ONE: Spool = Spool {
 /// The receiver of peer 1, which receives nothing.
 pub(super) const RECEIVER: Script<'static> = Script {
     shows: "a receiver",
-    plan: PLAN,
     worker: Worker::Receiver(PeerId(1)),
     spool: EMPTY,
     window: 1,
@@ -117,7 +114,6 @@ pub(super) const RECEIVER: Script<'static> = Script {
     call: 0,
     sent: &[(0, OF_7, &[1])],
     other: [0, 0, 0],
-    length: 3,
     woken: (1, 1),
     rows: &[],
 };
@@ -148,7 +144,7 @@ fn work<R: Abort + Wait>(rt: &R, alloc: Global, plan: &Plan, script: &Script, en
 }
 
 /// The desk of a script's spool.
-pub(super) fn desk<R: Abort>(rt: &R, alloc: Global, script: &Script) -> Losing {
+fn desk<R: Abort>(rt: &R, alloc: Global, script: &Script) -> Losing {
     Losing {
         desk: MemDesk::new(alloc, machine(rt, alloc, &script.spool)),
         lost: script.lost,
@@ -173,7 +169,7 @@ fn left<R: Abort + Wait>(
             hop: HopId(0),
         },
     };
-    work(rt, alloc, &plan(rt, alloc, script.plan), script, &mut ends);
+    work(rt, alloc, &plan(rt, alloc), script, &mut ends);
     ends
 }
 
@@ -215,7 +211,7 @@ fn told(script: &Script, counts: Counts) -> ([Counts; 2], [u64; 2]) {
         Worker::Sender(HopId(2)) => [script.other, counts],
         _ => [counts, script.other],
     };
-    (hops, [items, script.length.saturating_mul(items)])
+    (hops, [items, LENGTH.saturating_mul(items)])
 }
 
 /// Whether these are the numbers of a row.
@@ -265,23 +261,16 @@ fn expect_found<R: Abort>(rt: &R, alloc: Global, ends: &MemEnds, script: &Script
     );
 }
 
-/// Checks a row of a worker at a desk, and returns the desk.
-pub(super) fn desk_after<R: Abort + Wait>(
-    rt: &R,
-    alloc: Global,
-    script: &Script,
-    row: &Row,
-    desk: Losing,
-) -> Losing {
-    let ends = left(rt, alloc, script, row.0, desk);
+/// Checks a row of a worker.
+fn expect_after<R: Abort + Wait>(rt: &R, alloc: Global, script: &Script, row: &Row) {
+    let ends = left(rt, alloc, script, row.0, desk(rt, alloc, script));
     expect_found(rt, alloc, &ends, script, row);
-    ends.desk
 }
 
 /// Checks the rows of a script.
 pub(super) fn expect_script<R: Abort + Wait>(rt: &R, alloc: Global, script: &Script) {
     for row in script.rows {
-        let _ = desk_after(rt, alloc, script, row, desk(rt, alloc, script));
+        expect_after(rt, alloc, script, row);
     }
 }
 
@@ -289,29 +278,5 @@ pub(super) fn expect_script<R: Abort + Wait>(rt: &R, alloc: Global, script: &Scr
 pub(super) fn expect_scripts<R: Abort + Wait>(rt: &R, alloc: Global, scripts: &[Script]) {
     for script in scripts {
         expect_script(rt, alloc, script);
-    }
-}
-
-/// Checks these scripts with these packets received.
-fn expect_hearing<'a, R: Abort + Wait>(
-    rt: &R,
-    alloc: Global,
-    scripts: &[Script<'a>],
-    heard: &'a [Packets<'a>],
-) {
-    for script in scripts {
-        expect_script(rt, alloc, &Script { heard, ..*script });
-    }
-}
-
-/// Checks these scripts, whichever of these packets is received.
-pub(super) fn expect_each<'a, R: Abort + Wait>(
-    rt: &R,
-    alloc: Global,
-    scripts: &[Script<'a>],
-    each: &[&'a [Packets<'a>]],
-) {
-    for heard in each {
-        expect_hearing(rt, alloc, scripts, *heard);
     }
 }

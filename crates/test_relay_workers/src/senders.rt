@@ -15,7 +15,7 @@ use std::sync::Wait;
 /// A sender to hop 1: the number of waiting datagrams, and the window; the moment of the first turn, and the length
 /// of each turn and each call; and the call of its link that fails. The packets received, the packets sent, in
 /// order, and the effects.
-pub(super) type Case<'a> = (
+type Case<'a> = (
     &'a str,
     [u64; 6],
     &'a [Packets<'a>],
@@ -33,36 +33,6 @@ fn queue(first: u64) -> Spool {
         peer: 1,
         first,
         second: 0,
-    }
-}
-
-/// Checks a sender that receives this.
-fn expect_sender<'a, R: Abort + Wait>(
-    rt: &R,
-    alloc: Global,
-    (shows, [first, window, start, step, call, fails_at], _, sent, rows): Case<'a>,
-    heard: &'a [Packets<'a>],
-) {
-    let script = Script {
-        shows,
-        spool: queue(first),
-        window,
-        heard,
-        fails_at,
-        start,
-        step,
-        call,
-        sent,
-        rows,
-        ..SENDER
-    };
-    expect_script(rt, alloc, &script);
-}
-
-/// Checks these senders.
-pub(super) fn expect_senders<'a, R: Abort + Wait>(rt: &R, alloc: Global, cases: &[Case<'a>]) {
-    for case in cases {
-        expect_sender(rt, alloc, *case, case.2);
     }
 }
 
@@ -110,12 +80,6 @@ const CONTACTS: [Case<'static>; 4] = [
         ],
     ),
 ];
-
-/// A datagram is sent only within a contact.
-#[test]
-fn a_datagram_goes_out_in_a_contact(rt: HostRuntime) {
-    expect_senders(&rt, rt.alloc(), &CONTACTS);
-}
 
 const BATCHES: [Case<'static>; 5] = [
     // The first turn asks for the window. Then Picks and the Fetches of the picked datagrams alternate: 1, 2, 4 and
@@ -217,12 +181,6 @@ const BATCHES: [Case<'static>; 5] = [
     ),
 ];
 
-/// Datagrams fetched together are sent together, and released together.
-#[test]
-fn a_window_goes_out_in_batches(rt: HostRuntime) {
-    expect_senders(&rt, rt.alloc(), &BATCHES);
-}
-
 const AGAIN: [Case<'static>; 2] = [
     // The third turn sends the first of seven datagrams, and the seventh the last four. A second after the third
     // turn the first is sent again, alone. Its custody is received two turns later. Nothing was heard before that
@@ -263,11 +221,43 @@ const AGAIN: [Case<'static>; 2] = [
     ),
 ];
 
-/// The flight is sent again, one by one, and not while custody is received.
-#[test]
-fn a_window_goes_out_again_one_by_one(rt: HostRuntime) {
-    expect_senders(&rt, rt.alloc(), &AGAIN);
-}
+/// A datagram is sent in turn 3, and again one, two and four seconds after it was last sent, in turns 13, 33 and
+/// 73.
+const AFTER_A_FAILURE: [Case<'static>; 3] = [
+    (
+        "the first send fails, and is made again after the next timeout",
+        [1, 1, 1_000, 100_000, 0, 4],
+        &[],
+        &[(0, TO_9, &[1])],
+        &[
+            (3, [ANY, 0, ANY, ANY], [0, 1, 0]),
+            (12, [ANY, 0, ANY, ANY], [0, 1, 0]),
+            (13, [ANY, 1, ANY, ANY], [0, 1, 0]),
+        ],
+    ),
+    (
+        "the second send fails",
+        [1, 1, 1_000, 100_000, 0, 15],
+        &[],
+        &[(0, TO_9, &[1, 1])],
+        &[
+            (13, [ANY, 1, ANY, ANY], [0, 1, 0]),
+            (32, [ANY, 1, ANY, ANY], [0, 1, 0]),
+            (33, [ANY, 2, ANY, ANY], [0, 1, 0]),
+        ],
+    ),
+    (
+        "the third send fails",
+        [1, 1, 1_000, 100_000, 0, 36],
+        &[],
+        &[(0, TO_9, &[1, 1, 1])],
+        &[
+            (33, [ANY, 2, ANY, ANY], [0, 1, 0]),
+            (72, [ANY, 2, ANY, ANY], [0, 1, 0]),
+            (73, [ANY, 3, ANY, ANY], [0, 1, 0]),
+        ],
+    ),
+];
 
 /// Seven datagrams wait, all of which fit the window. The asks are the window's; a Pick and its Fetch; two Picks
 /// and their Fetches; four Picks, which are asks 8 to 11; and their Fetches, which are asks 12 to 15.
@@ -303,12 +293,6 @@ const REFUSALS: [Script<'static>; 2] = [
         ..SEVEN
     },
 ];
-
-/// One call is refused, among others that are submitted together.
-#[test]
-fn one_call_is_refused(rt: HostRuntime) {
-    expect_scripts(&rt, rt.alloc(), &REFUSALS);
-}
 
 /// Without packets received the third turn sends the datagram. The first turn from a second after that on sends it
 /// again, and the first from two seconds after that on once more. All turns wait but the first three.
@@ -368,12 +352,6 @@ const TIMEOUTS: [Case<'static>; 5] = [
     ),
 ];
 
-/// The flight is sent again after a second, and then after twice as long, however many turns that takes.
-#[test]
-fn data_is_sent_again(rt: HostRuntime) {
-    expect_senders(&rt, rt.alloc(), &TIMEOUTS);
-}
-
 /// Packets that are no message for the sender, a custody of a number not in flight, a Heard from above the flight, one
 /// of another station, and one of numbers that aren't in flight. One comes in each turn, by the first of its two
 /// receives.
@@ -386,8 +364,38 @@ const STRAYS: [&[Packets<'static>]; 6] = [
     &[(0, HEARD_AFTER_1, &[0]), (1, HEARD_AFTER_1, &[0; 402])],
 ];
 
+/// Checks a sender that receives this.
+fn expect_sender<'a, R: Abort + Wait>(
+    rt: &R,
+    alloc: Global,
+    (shows, [first, window, start, step, call, fails_at], _, sent, rows): Case<'a>,
+    heard: &'a [Packets<'a>],
+) {
+    let script = Script {
+        shows,
+        spool: queue(first),
+        window,
+        heard,
+        fails_at,
+        start,
+        step,
+        call,
+        sent,
+        rows,
+        ..SENDER
+    };
+    expect_script(rt, alloc, &script);
+}
+
+/// Checks these senders.
+fn expect_senders<'a, R: Abort + Wait>(rt: &R, alloc: Global, cases: &[Case<'a>]) {
+    for case in cases {
+        expect_sender(rt, alloc, *case, case.2);
+    }
+}
+
 /// Checks these senders with these packets received.
-fn expect_silence<'a, R: Abort + Wait>(
+fn expect_stray<'a, R: Abort + Wait>(
     rt: &R,
     alloc: Global,
     heard: &'a [Packets<'a>],
@@ -398,20 +406,33 @@ fn expect_silence<'a, R: Abort + Wait>(
     }
 }
 
-/// Checks these senders, whichever of these packets is received.
-fn expect_strays<'a, R: Abort + Wait>(
-    rt: &R,
-    alloc: Global,
-    strays: &[&'a [Packets<'a>]],
-    cases: &[Case<'a>],
-) {
-    for stray in strays {
-        expect_silence(rt, alloc, *stray, cases);
+/// A datagram is sent only within a contact. Datagrams fetched together are sent together, and released together. The
+/// flight is sent again one by one, and not while custody is received; after a second, and then after twice as long,
+/// however many turns that takes. A send that fails is made again then.
+const TABLES: [&[Case<'static>]; 5] = [&CONTACTS, &BATCHES, &AGAIN, &AFTER_A_FAILURE, &TIMEOUTS];
+
+/// Checks the senders of each table.
+fn expect_tables<R: Abort + Wait>(rt: &R, alloc: Global, tables: &[&[Case]]) {
+    for cases in tables {
+        expect_senders(rt, alloc, *cases);
     }
 }
 
-/// Whatever is received, the flight is sent as often as without packets, and the receives wait as often.
+/// Whichever stray is received, the flight is sent as often as without, and the receives wait as often.
+fn expect_strays<'a, R: Abort + Wait>(rt: &R, alloc: Global, strays: &[&'a [Packets<'a>]]) {
+    for stray in strays {
+        expect_stray(rt, alloc, *stray, &TIMEOUTS);
+    }
+}
+
 #[test]
-fn strays_draw_nothing(rt: HostRuntime) {
-    expect_strays(&rt, rt.alloc(), &STRAYS, &TIMEOUTS);
+fn each_sender_does_as_its_case_says(rt: HostRuntime) {
+    expect_tables(&rt, rt.alloc(), &TABLES);
+    expect_strays(&rt, rt.alloc(), &STRAYS);
+}
+
+/// One call is refused, among others that are submitted together.
+#[test]
+fn one_call_is_refused(rt: HostRuntime) {
+    expect_scripts(&rt, rt.alloc(), &REFUSALS);
 }

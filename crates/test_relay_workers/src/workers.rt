@@ -13,7 +13,7 @@ use std::process::Abort;
 use std::sync::Wait;
 
 /// Station 7, after station 3 and before stations 9 and 10.
-pub(super) const PLAN: &str = r#"
+const PLAN: &str = r#"
 station = 7
 [[peer]]
 id = 1
@@ -42,31 +42,9 @@ destination = 14
 hop = 2
 "#;
 
-/// The same, where hop 1 is the rest's.
-pub(super) const WITH_REST: &str = r#"
-station = 7
-peer = [{ id = 1, station = 3, listen = "", remote = "" }]
-hop = [
-  { id = 1, station = 9, listen = "", remote = "", contacts = [[100, 200]] },
-  { id = 2, station = 10, listen = "", remote = "", contacts = [] },
-]
-route = [{ destination = 14, hop = 2 }, { destination = "rest", hop = 1 }]
-"#;
-
-/// The same, where the rest's hop leads to the station of the peer.
-pub(super) const REST_LEADS_BACK: &str = r#"
-station = 7
-peer = [{ id = 1, station = 3, listen = "", remote = "" }]
-hop = [
-  { id = 1, station = 3, listen = "", remote = "", contacts = [[100, 200]] },
-  { id = 2, station = 10, listen = "", remote = "", contacts = [] },
-]
-route = [{ destination = 14, hop = 2 }, { destination = "rest", hop = 1 }]
-"#;
-
-/// A plan of a text.
-pub(super) fn plan<R: Abort>(rt: &R, alloc: Global, text: &str) -> Plan {
-    Plan::from_toml(alloc, text).ok().expect(rt, "a plan")
+/// That plan.
+pub(super) fn plan<R: Abort>(rt: &R, alloc: Global) -> Plan {
+    Plan::from_toml(alloc, PLAN).ok().expect(rt, "a plan")
 }
 
 /// A packet under each of these numbers, each after this many receives without a packet. The number's last byte is

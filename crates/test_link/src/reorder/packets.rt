@@ -12,15 +12,6 @@ pub(crate) fn data(number: u8) -> [u8; 21] {
     packet
 }
 
-/// The same with a limit of 5,000 microseconds.
-pub(crate) fn limited(number: u8) -> [u8; 26] {
-    let mut packet =
-        *b"\x52\x4c\x01\x04\x00\x03\x00\x07\x00\x00\x00\x00\x00\x00\x00\x00\x00\x00\x00\x13\x88\x00\x03\x00\x0c\x00";
-    packet[15] = number;
-    packet[25] = number;
-    packet
-}
-
 /// Custody from station 7 to station 3 of all numbers up to one below 256.
 pub(crate) fn custody(last: u8) -> [u8; 16] {
     let mut packet = *b"\x52\x4c\x01\x02\x00\x07\x00\x03\x00\x00\x00\x00\x00\x00\x00\x00";

@@ -8,4 +8,5 @@ returns c =
     let report = c.with_option-with_report.ensures _ (c.with_option-with_turns.ensures _ files) in
     let gather = c.with_arg-with_gather.ensures _ _ report c.gather.ensures.rule in
     let events = c.with_arg-with_events.ensures _ _ gather c.flag-events.ensures.rule in
-    c.with_arg.ensures _ _ events c.flag-renumber.ensures.rule
+    let renumber = c.with_arg-with_renumber.ensures _ _ events c.flag-renumber.ensures.rule in
+    c.with_arg.ensures _ _ renumber c.flag-patient.ensures.rule

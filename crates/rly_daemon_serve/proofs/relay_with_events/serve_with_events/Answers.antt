@@ -56,4 +56,4 @@ returns-clause-reported g c = ok_then c.run_with_events.result c.run_with_events
 pub run_with_events-requires-send-L : goal.run_with_events-requires-send-L
 run_with_events-requires-send-L g c κs within =
     let shared = param_sync 0 _ c.type_bounds.sync-H in
-    param_send 2 _ (arg_send _ no _ (tallied_send _ _ (neighbour_send _ _ (shr_send _ _ _ shared)) (shr_send _ _ _ shared)))
+    param_send 2 _ (arg_send _ no _ (tallied_send _ _ (neighbour_send _ _ _ (shr_send _ _ _ shared)) (shr_send _ _ _ shared)))

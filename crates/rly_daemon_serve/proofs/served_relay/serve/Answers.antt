@@ -17,7 +17,7 @@ run_posts-requires-clause-count g c κs within =
 -- a worker's link goes to its thread
 pub run_posts-requires-send-L : goal.run_posts-requires-send-L
 run_posts-requires-send-L g c κs within =
-    param_send 2 _ (arg_send _ no _ (neighbour_send _ _ (shr_send _ _ _ (param_sync 0 _ c.type_bounds.sync-H))))
+    param_send 2 _ (arg_send _ no _ (neighbour_send _ _ _ (shr_send _ _ _ (param_sync 0 _ c.type_bounds.sync-H))))
 
 pub returns-clause-room : goal.returns-clause-room
 returns-clause-room g c = on_ok c.run_posts.result c.in-Ok.ensures.room

@@ -1,7 +1,9 @@
-use Rattle.std.proofs.Common.{◌≡◌, ◌++◌, map}
+use Rattle.std.proofs.Common.{◌≡◌, ◌++◌, false, map, true}
+use Rattle.std.specs.List.{list_all}
+use Rattle.std.specs.Option.{is_none}
 use Rattle.std.specs.Vec.Iter.{into_iter_items}
 use Rattle.rly_link_udp.specs.FolderWatch.{path_of}
-use Rattle.rly_posts.specs.Duties.{duties, duty_at, duty_of}
+use Rattle.rly_posts.specs.Duties.{duties, duty_at, duty_of, refusal_at}
 use Rattle.rly_posts.specs.WatchedFolders.{watched_by, watched_folders, watches}
 use Rattle.rly_posts.proofs.posts.shared_posts.Given as goal
 
@@ -12,3 +14,4 @@ invariant-loop-link g l =
     ≡ duties l.fn.plan l.fn.keys l.fn.longest l.fn.turns)
     × (map watches l.posts.items ++ map (watched_by (map path_of l.folders.items)) (into_iter_items l.link-iterator)
     ≡ map (watched_by (map path_of l.folders.items)) l.fn.keys)
+    × (l.is_patient ≡ false → list_all is_none (map refusal_at l.posts.items) ≡ true)

@@ -1,4 +1,0 @@
-use Rattle.test_daemon.proofs.edge.reports.greatest_plan.Goals as goal
-
-pub returns-in-Ok-clause-sound : goal.returns-in-Ok-clause-sound
-returns-in-Ok-clause-sound c = c.law_plan_is_sound.ensures _ _ c.in-Ok.ensures.plan

@@ -1,7 +1,0 @@
-//! `sim` and `play`.
-
-mod flushes;
-mod growths;
-mod plays;
-mod rows;
-mod streams;
