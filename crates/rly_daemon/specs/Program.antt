@@ -1,5 +1,5 @@
 -- The result of a run of the program, by its command line (docs/COMMANDS.md).
-use Rattle.std.specs.Prelude.{◌≡◌, ◌⊎◌, ℕ, ◌+◌, ◌-◌, ◌*◌, ◌^◌, ◌≤◌, ◌==◌, MatchBool, List, [], ◌∷◌, ◌++◌, length, IfSome, ⊤}
+use Rattle.std.specs.Prelude.{◌≡◌, ◌⊎◌, ℕ, ◌+◌, ◌-◌, ◌*◌, ◌^◌, ◌≤◌, ◌==◌, MatchBool, List, [], ◌∷◌, ◌++◌, length, map, IfSome, ⊤}
 use Rattle.std.specs.Prelude.{Bool, Option, None, true, false, codes, is_some, unwrap_or}
 use Rattle.std.specs.Fmt.{decimal}
 use Rattle.std.specs.Io.KnownBytes.{Appends}
@@ -17,6 +17,7 @@ use Rattle.rly_daemon_reporter.specs.declared.reporter.ReporterEnd.TheVariants.{
 use Rattle.rly_segment.specs.Device.{IsLayout, device_length}
 use Rattle.rly_daemon_args.specs.declared.given.Settings.{Settings}
 use Rattle.rly_daemon_args.specs.declared.given.Settings.TheVariants.{Sim, Format, Play, Audit, Serve, Key, Plan, Put, Get}
+use Rattle.rly_daemon_args.specs.declared.given.Settings.TheVariants.{NetworkCheck, NetworkDraw, NetworkWrite}
 use Rattle.rly_daemon_commands.specs.Commands.{HasAudited, HasFormatted, HasPlayed}
 use Rattle.rly_daemon_commands.specs.FileDisk.{file_state}
 use Rattle.rly_daemon_commands.specs.FormatCommand.{wanted_geometry}
@@ -29,12 +30,14 @@ use Rattle.rly_daemon.specs.CountedDisk.{counted_state}
 use Rattle.rly_disk.specs.DiskModel.{DiskState}
 use Rattle.rly_daemon_serve.specs.ReportedRelay.{HasReports}
 use Rattle.rly_daemon_serve.specs.ServedRelay.{FitsPlan}
+use Rattle.rly_network_command.specs.NetworkCheck.{HasCheckedNetwork}
+use Rattle.rly_network_command.specs.NetworkWrite.{HasDrawnNetwork, HasWrittenNetwork}
 use Rattle.rly_station.specs.Workers.{workers_of}
 use Rattle.rly_daemon_lines.specs.Text.{text_for}
 use Rattle.rly_daemon_commands.specs.declared.file_disk.FileDisk.{FileDisk}
 use Rattle.rly_daemon.specs.declared.counted_disk.CountedDisk.{CountedDisk}
 use Rattle.rly_daemon.specs.declared.program_fault.ProgramFault.{ProgramFault}
-use Rattle.rly_daemon.specs.declared.program_fault.ProgramFault.TheVariants.{Command, Folder}
+use Rattle.rly_daemon.specs.declared.program_fault.ProgramFault.TheVariants.{Command, Disagreement, Folder, Network}
 
 -- the log line for the end
 abbrev pub ended_line : ℕ → List ℕ
@@ -113,6 +116,12 @@ IsDone H (Put folder lines destination limit wait) before behind left old new to
 IsDone H (Get folder lines raw count follow) before behind left old new told_old told_new = (behind ≡ before)
     × HasPrinted H folder.now (get_form lines raw) (unwrap_or count (2 ^ 64 - 1)) follow old new
     × (told_new ≡ told_old)
+IsDone H (NetworkCheck names) before behind left old new told_old told_new =
+    (behind ≡ before) × HasCheckedNetwork (map (λ s. s.now) names.now) true old new × (told_new ≡ told_old)
+IsDone H (NetworkWrite file folder changed) before behind left old new told_old told_new =
+    (behind ≡ before) × HasWrittenNetwork file.now folder.now changed old new × (told_new ≡ told_old)
+IsDone H (NetworkDraw file) before behind left old new told_old told_new =
+    (behind ≡ before) × HasDrawnNetwork file.now old new × (told_new ≡ told_old)
 
 -- a command that may end while a wait isn't over
 abbrev pub Waits : Settings → Type 0
@@ -123,6 +132,8 @@ Waits _ = ⊥
 abbrev pub is_wait_over : ProgramFault → Bool
 is_wait_over (Command fault) = false
 is_wait_over (Folder fault) = is_over fault
+is_wait_over (Network fault) = false
+is_wait_over Disagreement = false
 
 -- the values of a spool or of a device are out of their limits
 abbrev pub IsOutOfLimits : Settings → Type 0

@@ -8,6 +8,7 @@ use rly_daemon_args::Settings;
 use rly_daemon_commands::{CommandFault, FileDisk, OptionFault, format_fault, params_fault};
 use rly_daemon_folder::FolderCommandFault;
 use rly_link::Worker;
+use rly_network_command::{NetworkCommandFault, plan_and_device};
 use rly_plan::KeyPath;
 use rly_plan_show::{plan_advice_of, room_text_of};
 use rly_segment::read_header;
@@ -39,6 +40,36 @@ pub(crate) fn complaint_of<H: AllocGlobal + Files<File = File>>(
     match fault {
         ProgramFault::Command(fault) => command_complaint(rt, settings, fault),
         ProgramFault::Folder(fault) => folder_complaint(rt.alloc(), settings, fault),
+        ProgramFault::Network(fault) => network_complaint(rt, settings, fault),
+        // The output has it.
+        ProgramFault::Disagreement => Ok(String::new(rt.alloc())),
+    }
+}
+
+/// The lines of the fault of `network`. A plan that was refused has those of `plan`.
+fn network_complaint<H: AllocGlobal + Files<File = File>>(
+    rt: &H,
+    settings: &Settings<'_>,
+    fault: &NetworkCommandFault,
+) -> Result<String, AllocError> {
+    match (settings, fault) {
+        (Settings::NetworkCheck { names }, NetworkCommandFault::Plan(index, fault))
+            if *index < names.len() => {
+            let (plan, device) = plan_and_device(names[*index]);
+            let settings = Settings::Plan {
+                plan,
+                at: None,
+                device,
+                was: None,
+            };
+            command_complaint(rt, &settings, fault)
+        }
+        // Its lines have their newlines.
+        (
+            Settings::NetworkWrite { file, .. } | Settings::NetworkDraw { file },
+            NetworkCommandFault::Found(lines),
+        ) => format!(in rt.alloc(); "rly: network failed\nrly: network: {file}: {lines}"),
+        _ => format!(in rt.alloc(); "{fault}\n"),
     }
 }
 

@@ -1,8 +1,8 @@
 //! The program `rly` as a library. `run` takes a command line and streams, executes the command
 //! and returns the exit status; `specs/Program.antt` defines the result of each command that
 //! succeeds, and `complaint_of` makes the lines of one that fails. It dispatches to
-//! `rly_daemon_commands`, `rly_daemon_lines`, `rly_daemon_args`, `rly_daemon_folder`, `rly_station`
-//! and `rly_daemon_serve`. Caller: only the program `rly`.
+//! `rly_daemon_commands`, `rly_daemon_lines`, `rly_daemon_args`, `rly_daemon_folder`,
+//! `rly_network_command`, `rly_station` and `rly_daemon_serve`. Caller: only the program `rly`.
 #![tactic(auto)]
 
 mod complaint;
@@ -10,6 +10,7 @@ mod counted_disk;
 mod file_look;
 mod folder_commands;
 mod gate_tally;
+mod network_commands;
 mod program;
 mod program_fault;
 mod serve_command;

@@ -1,6 +1,6 @@
 //! The program: its command line, its commands and its status.
 
-ghost use Rattle.std.specs.Prelude.{◌≡◌, ◌≤◌, ◌⊎◌, [], Err, IfErr, OnOk, if◌then◌else◌, map, true};
+ghost use Rattle.std.specs.Prelude.{◌≡◌, ◌≤◌, ◌⊎◌, [], Err, IfErr, IfOk, OnOk, if◌then◌else◌, map, true};
 ghost use denote.Ref.{Bor};
 ghost use Rattle.rly_daemon_args.specs.CommandLine.{AsksHelp, IsSettings, asked_of, kinds_at};
 ghost use Rattle.rly_daemon_args.specs.declared.given.Settings.{Settings as ASettings};
@@ -10,6 +10,7 @@ ghost use Rattle.rly_daemon.specs.Program.{IsDone, IsOutOfLimits, Waits, is_wait
 
 use crate::complaint::complaint_of;
 use crate::folder_commands::{get_files, put_files};
+use crate::network_commands::{check_network, draw_network, write_network};
 use crate::program_fault::ProgramFault;
 use crate::serve_command::run_serving;
 use rly_core::Refusal;
@@ -21,7 +22,7 @@ use rly_daemon_folder::Form;
 use rly_daemon_lines::TextFault;
 use rly_daemon_serve::RelaySettings;
 use rly_station::Cause;
-use std::alloc::Global;
+use std::alloc::{AllocError, Global};
 use std::convert::AsStr;
 use std::env::Env;
 use std::fmt::Display;
@@ -34,7 +35,8 @@ use std::thread::Threads;
 use std::time::{Clock, Duration};
 
 /// The requirements of the program on its runtime. Only `rly serve` starts threads and waits for them; it, `rly put` and
-/// `rly get` use the network, only `rly key` uses randomness, and only `rly serve` reads the environment.
+/// `rly get` use the network, only `rly key` and `rly network write` use randomness, and only `rly serve` reads the
+/// environment.
 pub trait Host: AllocGlobal
     + Files<File = File>
     + Net
@@ -75,6 +77,45 @@ where
     // Only a put waits for custody.
     ensures over { result ≡ 3 → (settings : ASettings) × IsSettings (asked_of (map S.text words.now)) settings
         × Waits settings }
+{
+    match texts_of(rt.alloc(), words) {
+        Ok(texts) => run_texts(rt, texts.as_slice(), reader, writer, errors),
+        Err(_refused) => fail(&SettingsFault::OutOfMemory, errors),
+    }
+}
+
+/// The texts of words.
+fn texts_of<'a, S: AsStr>(alloc: Global, words: &'a [S]) -> Result<Vec<&'a str>, AllocError>
+    ensures { IfOk result (λ texts. map (λ s. s.now) texts.items ≡ map S.text words.now) }
+{
+    let mut texts = Vec::new(alloc);
+    for word in words {
+        texts.push(word.as_str())?;
+    }
+    Ok(texts)
+}
+
+/// Runs the program on the texts of a command line's words.
+fn run_texts<'a, H: Host, R: Read, W: Write + Send, E: Write>(
+    rt: &H,
+    words: &'a [&'a str],
+    reader: &mut R,
+    writer: &mut W,
+    errors: &mut E,
+) -> u8
+where
+    H::Dir: Send + Sync,
+    H::Stream: Send + Sync,
+    H::Listener: Send + Sync,
+    ensures status { result ≤ 3 }
+    ensures bad { result ≡ 2 → (reader.new ≡ reader.old) × (writer.new ≡ writer.old) }
+    ensures done { result ≡ 0 → (AsksHelp (map (λ s. s.now) words.now) × (reader.new ≡ reader.old))
+        ⊎ ((settings : ASettings) × IsSettings (asked_of (map (λ s. s.now) words.now)) settings
+        × (kinds_at (map (λ s. s.now) words.now) ≡ [])
+        × IsDone (Bor H) settings reader.old reader.new (R.remaining reader.old) (W.contents writer.old)
+        (W.contents writer.new) (E.contents errors.old) (E.contents errors.new)) }
+    ensures over { result ≡ 3 → (settings : ASettings)
+        × IsSettings (asked_of (map (λ s. s.now) words.now)) settings × Waits settings }
 {
     match settings(rt.alloc(), words) {
         Ok(settings) => match obey(rt, settings, reader, writer, errors) {
@@ -184,6 +225,13 @@ where
             count,
             follow,
         } => get_files(rt, folder, Form { raw, lines }, count, follow, writer),
+        Settings::NetworkCheck { names } => check_network(rt, names, writer),
+        Settings::NetworkWrite {
+            file,
+            folder,
+            changed,
+        } => write_network(rt, file, folder, changed, writer),
+        Settings::NetworkDraw { file } => draw_network(rt, file, writer),
     }
 }
 

@@ -1,5 +1,6 @@
 use rly_daemon_commands::CommandFault;
 use rly_daemon_folder::FolderCommandFault;
+use rly_network_command::NetworkCommandFault;
 use thiserror::Error;
 
 /// The error of the program; displays as the lines for standard error.
@@ -11,6 +12,12 @@ pub(crate) enum ProgramFault {
     /// The error of `put` or `get`.
     #[error("{0}")]
     Folder(FolderCommandFault),
+    /// The error of `network`.
+    #[error("{0}")]
+    Network(NetworkCommandFault),
+    /// The plans of a network disagree, which was printed.
+    #[error("")]
+    Disagreement,
 }
 
 impl ProgramFault {
@@ -36,6 +43,8 @@ impl ProgramFault {
         match self {
             ProgramFault::Command(_) => false,
             ProgramFault::Folder(fault) => fault.is_over(),
+            ProgramFault::Network(_) => false,
+            ProgramFault::Disagreement => false,
         }
     }
 }

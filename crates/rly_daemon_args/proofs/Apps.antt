@@ -3,7 +3,7 @@ use Rattle.std.proofs.Common.{◌≡◌, Bool, true, false, not, refl, ◌∙◌
 use Rattle.std.proofs.lemmas.Bool.{and_parts}
 use Rattle.clap.specs.Words.{AddsSubcommand, App, app_of, is_simple, is_simple_and_free, with_subcommand}
 use Rattle.clap.specs.declared.builder.command.Command.{Command}
-use Rattle.rly_daemon_args.specs.CommandLine.{audit_app, format_app, get_app, key_app, plan_app, play_app, put_app, rly_app, rly_top, serve_app, sim_app}
+use Rattle.rly_daemon_args.specs.CommandLine.{audit_app, format_app, get_app, key_app, network_app, plan_app, play_app, put_app, rly_app, rly_top, serve_app, sim_app}
 
 not_true : (b : Bool) → not b ≡ true → b ≡ false
 not_true true h = let no : ⊥ = cc in absurd no
@@ -55,12 +55,16 @@ pub get_plain : get_app.top.is_plain ≡ true
 unfolding get_app
 get_plain = refl
 
+pub network_plain : network_app.top.is_plain ≡ true
+unfolding network_app
+network_plain = refl
+
 -- clap's matches of its words are known
 pub rly_simple : is_simple rly_app ≡ true
-unfolding rly_app rly_top sim_app format_app play_app audit_app serve_app key_app plan_app put_app get_app
+unfolding rly_app rly_top sim_app format_app play_app audit_app serve_app key_app plan_app put_app get_app network_app
 rly_simple = refl
 
 -- so are the errors at them
 pub rly_free : is_simple_and_free rly_app ≡ true
-unfolding rly_app rly_top sim_app format_app play_app audit_app serve_app key_app plan_app put_app get_app
+unfolding rly_app rly_top sim_app format_app play_app audit_app serve_app key_app plan_app put_app get_app network_app
 rly_free = refl

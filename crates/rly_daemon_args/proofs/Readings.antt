@@ -1,5 +1,9 @@
 -- Reading the matches of words.
-use Rattle.std.proofs.Common.{◌≡◌, ℕ, List, [], true, inl, inr, Option, Some, None, Result, Ok, Err, refl, subst, sym, ◌∙◌}
+use Rattle.std.proofs.Common.{◌≡◌, ℕ, List, [], ◌∷◌, true, ap₂, arith, inl, inr, length, map, nat_eq, Option, Some, None, Result, Ok, Err, refl, subst, sym, ◌∙◌}
+use lib.Pointwise.{bytes_decides, pointwise}
+use Rattle.std.proofs.lemmas.Bool.{and_parts}
+use Rattle.std.specs.Borrow.{Bor}
+use Rattle.std.specs.Prelude.{slice_index_or}
 use Rattle.std.specs.Prelude.{is_some, option_map, unwrap_or}
 use Rattle.std.specs.Str.Parse.{ParsesUnsigned}
 use Rattle.std.specs.declared.num.ParseIntError.{ParseIntError}
@@ -73,3 +77,26 @@ true_fault command words error (Asked text) fails is told =
         asked = subst (λ e. IsAmong (kind_of e) (fault_of rly_app words)) (sym told.0) kinds;
       }
     ]
+
+-- words that are equal have the same texts
+pub same_texts : (words others : List (Bor Text)) → pointwise (λ w o. pointwise nat_eq w.now o.now) words others ≡ true
+    → map (λ w. w.now) words ≡ map (λ o. o.now) others
+same_texts [] [] same = refl
+same_texts [] (o ∷ others) same = absurd (cc same)
+same_texts (w ∷ words) [] same = absurd (cc same)
+same_texts (w ∷ words) (o ∷ others) same =
+    let parts = and_parts _ _ same in
+    ap₂ (λ text rest. text ∷ rest) ((bytes_decides w.now o.now).0 parts.0) (same_texts words others parts.1)
+
+-- the texts of one word, and of two
+pub one_text_alone : (words : List (Bor Text)) (none : Bor Text) → length words ≡ 1 → map (λ w. w.now) words ≡ (slice_index_or words 0 none).now ∷ []
+one_text_alone [] none one = absurd (omega (arith, one))
+one_text_alone (w ∷ []) none one = refl
+one_text_alone (w ∷ v ∷ words) none one = absurd (omega (arith, one))
+
+pub two_texts : (words : List (Bor Text)) (none no_other : Bor Text) → length words ≡ 2
+    → map (λ w. w.now) words ≡ (slice_index_or words 0 none).now ∷ (slice_index_or words 1 no_other).now ∷ []
+two_texts [] none no_other two = absurd (omega (arith, two))
+two_texts (w ∷ []) none no_other two = absurd (omega (arith, two))
+two_texts (w ∷ v ∷ []) none no_other two = refl
+two_texts (w ∷ v ∷ u ∷ words) none no_other two = absurd (omega (arith, two))

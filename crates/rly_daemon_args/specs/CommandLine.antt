@@ -1,16 +1,17 @@
 -- The settings of a command line (docs/COMMANDS.md): those in clap's matches of its words.
-use Rattle.std.specs.Prelude.{◌≡◌, ◌≢◌, ⊤, ℕ, List, [], ◌∷◌, Bool, true, false, Option, Some, None, codes, if◌then◌else◌, is_some, option_map, unwrap_or}
+use Rattle.std.specs.Prelude.{◌≡◌, ◌≢◌, ⊤, ℕ, List, [], ◌∷◌, Bool, true, false, Option, Some, None, codes, if◌then◌else◌, is_some, map, option_map, unwrap_or}
 use Rattle.std.specs.Str.Parse.{ParsesUnsigned}
 use Rattle.std.specs.declared.num.ParseIntError.{ParseIntError}
-use Rattle.clap.specs.Words.{App, IsAmong, Kinds, ReadsOne, Row, Rule, Text, fault_of, first_of, kind_of, one_of}
+use Rattle.clap.specs.Words.{App, IsAmong, Kinds, ReadsOne, Row, Rule, Text, all_of, fault_of, first_of, kind_of, one_of}
 use Rattle.clap.specs.Words.{new_app, new_rule, subcommand_of, with_rule, with_subcommand}
-use Rattle.clap.specs.declared.builder.action.ArgAction.TheVariants.{Set, SetTrue}
+use Rattle.clap.specs.declared.builder.action.ArgAction.TheVariants.{Append, Set, SetTrue}
 use Rattle.clap.specs.declared.builder.value_parser.ValueParser.TheVariants as parser
 use Rattle.clap.specs.declared.error.Error.{Error}
 use Rattle.clap.specs.declared.error.kind.ErrorKind.TheVariants as kind
 use Rattle.rly_core.specs.declared.params.Params.{Params}
 use Rattle.rly_daemon_args.specs.declared.given.Settings.{Settings}
 use Rattle.rly_daemon_args.specs.declared.given.Settings.TheVariants.{Sim, Format, Play, Audit, Serve, Key, Plan, Put, Get}
+use Rattle.rly_daemon_args.specs.declared.given.Settings.TheVariants.{NetworkCheck, NetworkDraw, NetworkWrite}
 use Rattle.rly_daemon_args.specs.declared.given.SettingsFault.{SettingsFault}
 use Rattle.rly_daemon_args.specs.declared.given.SettingsFault.TheVariants.{Asked, CommandLine, OutOfMemory}
 
@@ -36,6 +37,10 @@ flag_rule name = record (new_rule name) { long = Some name; action = Some SetTru
 -- a path argument
 abbrev pub path_rule : Text → Rule
 path_rule name = record (new_rule name) { action = Some Set; value_names = 1; required = true }
+
+-- the same for one path or more
+abbrev pub paths_rule : Text → Rule
+paths_rule name = record (path_rule name) { action = Some Append }
 
 -- an option with the path of a file
 abbrev pub file_rule : Text → Rule
@@ -127,6 +132,10 @@ unfoldable pub get_app : App
 get_app = with_rule (with_rule (with_rule (with_rule (with_rule (new_app (codes "get")) (path_rule (codes "folder")))
     (flag_rule (codes "lines"))) (flag_rule (codes "raw"))) (number_rule (codes "count"))) (flag_rule (codes "follow"))
 
+unfoldable pub network_app : App
+network_app = with_rule (with_rule (with_rule (new_app (codes "network")) (path_rule (codes "act")))
+    (paths_rule (codes "files"))) (flag_rule (codes "changed"))
+
 -- the program: a version, and a required command
 unfoldable pub rly_top : App
 rly_top = let new = new_app (codes "rly") in
@@ -137,8 +146,8 @@ rly_top = let new = new_app (codes "rly") in
 unfoldable pub rly_app : App
 rly_app =
     with_subcommand (with_subcommand (with_subcommand (with_subcommand (with_subcommand (with_subcommand
-    (with_subcommand (with_subcommand (with_subcommand rly_top sim_app.top) format_app.top) play_app.top)
-    audit_app.top) serve_app.top) key_app.top) plan_app.top) put_app.top) get_app.top
+    (with_subcommand (with_subcommand (with_subcommand (with_subcommand rly_top sim_app.top) format_app.top) play_app.top)
+    audit_app.top) serve_app.top) key_app.top) plan_app.top) put_app.top) get_app.top) network_app.top
 
 -- ---- the request in its matches
 
@@ -246,6 +255,18 @@ IsSettings (Some (command, rows)) (Get folder lines raw count follow) = (command
     × HasFlag rows (codes "raw") raw
     × ReadsNumber (one_of (codes "count") rows) count
     × HasFlag rows (codes "follow") follow
+IsSettings (Some (command, rows)) (NetworkCheck names) = (command ≡ codes "network")
+    × (path_in (codes "act") rows ≡ codes "check")
+    × (all_of (codes "files") rows ≡ Some (map (λ s. s.now) names.now))
+    × HasFlag rows (codes "changed") false
+IsSettings (Some (command, rows)) (NetworkWrite file folder changed) = (command ≡ codes "network")
+    × (path_in (codes "act") rows ≡ codes "write")
+    × (all_of (codes "files") rows ≡ Some (file.now ∷ folder.now ∷ []))
+    × HasFlag rows (codes "changed") changed
+IsSettings (Some (command, rows)) (NetworkDraw file) = (command ≡ codes "network")
+    × (path_in (codes "act") rows ≡ codes "draw")
+    × (all_of (codes "files") rows ≡ Some (file.now ∷ []))
+    × HasFlag rows (codes "changed") false
 
 -- ---- its errors
 

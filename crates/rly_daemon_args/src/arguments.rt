@@ -2,7 +2,7 @@ ghost use Rattle.std.specs.Prelude.{◌≡◌, false};
 ghost use Rattle.clap.specs.Words.{App, Rule, rule_of, with_rule};
 ghost use Rattle.rly_daemon_args.specs.HelpersBuilt.{IsBuilt};
 ghost use Rattle.rly_daemon_args.specs.CommandLine.{at_rule, batch_rule, destination_rule, file_rule, flag_rule, gather_rule};
-ghost use Rattle.rly_daemon_args.specs.CommandLine.{limit_rule, number_rule, option_rule, path_rule, payload_rule};
+ghost use Rattle.rly_daemon_args.specs.CommandLine.{limit_rule, number_rule, option_rule, path_rule, paths_rule, payload_rule};
 ghost use Rattle.rly_daemon_args.specs.CommandLine.{with_bare_codel_rules, with_codel_rules, with_param_rules, with_size_rules};
 
 use clap::{Arg, ArgAction, Command, value_parser};
@@ -203,6 +203,18 @@ fn path<'a>(alloc: Global, name: &'a str, value_name: &'a str, help: &'a str) ->
         .value_name(value_name)
         .required(true)
         .action(ArgAction::Set)
+        .help(help)
+}
+
+/// An argument of one path or more.
+pub(crate) fn paths<'a>(alloc: Global, name: &'a str, value_name: &'a str, help: &'a str) -> Arg<'a>
+    ensures rule { rule_of result ≡ paths_rule name.now }
+    ensures own { result.global ≡ false }
+{
+    Arg::new(alloc, name)
+        .value_name(value_name)
+        .required(true)
+        .action(ArgAction::Append)
         .help(help)
 }
 

@@ -1,4 +1,4 @@
-ghost use Rattle.std.specs.Prelude.{◌≡◌, ◌≢◌, [], IfErr, IfOk, IfSome, None, OnOk, Some, is_some, map, option_map};
+ghost use Rattle.std.specs.Prelude.{◌≡◌, ◌≢◌, [], IfErr, IfOk, IfSome, None, OnOk, Some, codes, is_some, map, option_map};
 ghost use Rattle.clap.specs.declared.error.kind.ErrorKind.TheVariants as kind;
 ghost use Rattle.clap.specs.Words.{first_of, found_of, one_of, rows_of, subcommand_rows_of};
 ghost use Rattle.rly_daemon_args.specs.CommandLine.{HasFlag, HasKept, HasNoCodel, HasNumber, HasParams, IsGiven};
@@ -10,7 +10,6 @@ use clap::error::ErrorKind;
 use clap::{ArgMatches, Command};
 use rly_core::{Params, limits};
 use std::alloc::Global;
-use std::convert::AsStr;
 
 /// The default number of segments of a device.
 const DEFAULT_SEGMENTS: u64 = 4;
@@ -29,18 +28,19 @@ const DEFAULT_GATHER: u64 = 0;
 
 /// Parses a command line, the program's name first. Faults are a value that is no `u64`, a batch, a moment, a wait of a
 /// round or a destination out of its limits, an unknown or a repeated option, `--keep-all` beside an option that it
-/// sets, and a missing command, file or folder; all other limits are checked later.
-pub fn settings<'a, S: AsStr>(alloc: Global, words: &'a [S]) -> Result<Settings<'a>, SettingsFault>
+/// sets, a missing command, file or folder, and for `network` another act or number of files; all other limits are
+/// checked later.
+pub fn settings<'a>(alloc: Global, words: &'a [&'a str]) -> Result<Settings<'a>, SettingsFault>
     // Each name, number and file is that of clap's matches, or the default.
-    ensures asked { IfOk result (λ settings. IsSettings (asked_of (map S.text words.now)) settings) }
+    ensures asked { IfOk result (λ settings. IsSettings (asked_of (map (λ s. s.now) words.now)) settings) }
     // A request for help or the version returns `Asked`, and any other fault `CommandLine`.
-    ensures told { IfErr result (λ fault. IsTrueFault (map S.text words.now) fault) }
+    ensures told { IfErr result (λ fault. IsTrueFault (map (λ s. s.now) words.now) fault) }
     // Words that clap refuses are never accepted.
-    ensures right { OnOk result (kinds_at (map S.text words.now) ≡ []) }
+    ensures right { OnOk result (kinds_at (map (λ s. s.now) words.now) ≡ []) }
 {
     let mut command: Command<'a> = program(alloc)?;
     let matches = command.try_get_matches_from_mut(words)?;
-    match settings_of(&matches) {
+    match settings_of(&matches, words) {
         Some(settings) => Ok(settings),
         None => {
             let (kind, reason) = fault_of(&matches);
@@ -51,7 +51,7 @@ pub fn settings<'a, S: AsStr>(alloc: Global, words: &'a [S]) -> Result<Settings<
 }
 
 /// The settings of the matched command.
-fn settings_of<'a>(matches: &ArgMatches<'a>) -> Option<Settings<'a>>
+fn settings_of<'a>(matches: &ArgMatches<'a>, words: &'a [&'a str]) -> Option<Settings<'a>>
     ensures { IfSome result (λ settings. IsSettings (subcommand_rows_of matches.now) settings) }
 {
     if let Some(options) = options_of(matches, "sim") {
@@ -96,6 +96,9 @@ fn settings_of<'a>(matches: &ArgMatches<'a>) -> Option<Settings<'a>>
     if let Some(settings) = folder_settings_of(matches) {
         return Some(settings);
     }
+    if let Some(options) = options_of(matches, "network") {
+        return network_settings_of(options, words);
+    }
     let options = options_of(matches, "serve")?;
     Some(Settings::Serve {
         file: path_of(options, "file"),
@@ -130,6 +133,36 @@ fn folder_settings_of<'a>(matches: &ArgMatches<'a>) -> Option<Settings<'a>>
         count: given_number(options, "count"),
         follow: has_flag(options, "follow"),
     })
+}
+
+/// The settings of `network`.
+fn network_settings_of<'a>(options: &ArgMatches<'a>, words: &'a [&'a str]) -> Option<Settings<'a>>
+    ensures { IfSome result (λ settings.
+        IsSettings (Some (codes "network", rows_of (found_of options.now))) settings) }
+{
+    let files = options.get_strs("files")?;
+    let changed = has_flag(options, "changed");
+    match (path_of(options, "act"), files, changed) {
+        ("check", _, false) => Some(Settings::NetworkCheck {
+            names: last_words(words, files)?,
+        }),
+        ("write", [file, folder], _) => Some(Settings::NetworkWrite {
+            file: *file,
+            folder: *folder,
+            changed,
+        }),
+        ("draw", [file], false) => Some(Settings::NetworkDraw { file: *file }),
+        _ => None,
+    }
+}
+
+/// The last words, if they are these.
+fn last_words<'a>(words: &'a [&'a str], wanted: &[&'a str]) -> Option<&'a [&'a str]>
+    ensures { IfSome result (λ last. map (λ s. s.now) last.now ≡ map (λ s. s.now) wanted.now) }
+{
+    let from = words.len().checked_sub(wanted.len())?;
+    let last = &words[from..];
+    if last == wanted { Some(last) } else { None }
 }
 
 /// The options of a command, if it is the matched one.
@@ -172,9 +205,40 @@ fn has_flag(options: &ArgMatches<'_>, name: &str) -> bool
 fn fault_of(matches: &ArgMatches<'_>) -> (ErrorKind, &'static str)
     ensures { result.0 ≢ kind.DisplayHelp × result.0 ≢ kind.DisplayVersion }
 {
+    if let Some(options) = options_of(matches, "network") {
+        return network_fault_of(path_of(options, "act"), has_flag(options, "changed"));
+    }
     match options_of(matches, "format").and_then(codel_option_of) {
         Some(option) => (ErrorKind::ArgumentConflict, clash_text(option)),
         None => (ErrorKind::MissingSubcommand, "no command is given"),
+    }
+}
+
+/// The reason why the words of `network` give no settings, by its act and whether `--changed` is given.
+fn network_fault_of(act: &str, changed: bool) -> (ErrorKind, &'static str)
+    ensures { result.0 ≢ kind.DisplayHelp × result.0 ≢ kind.DisplayVersion }
+{
+    match (act, changed) {
+        ("write", _) => (
+            ErrorKind::WrongNumberOfValues,
+            "`rly network write` takes a network file and a folder",
+        ),
+        ("check" | "draw", true) => (
+            ErrorKind::ArgumentConflict,
+            "--changed is an option of `rly network write` alone",
+        ),
+        ("check", false) => (
+            ErrorKind::WrongNumberOfValues,
+            "`rly network check` takes its files as the last words",
+        ),
+        ("draw", false) => (
+            ErrorKind::WrongNumberOfValues,
+            "`rly network draw` takes one network file",
+        ),
+        _ => (
+            ErrorKind::InvalidValue,
+            "`rly network` is followed by check, write or draw",
+        ),
     }
 }
 

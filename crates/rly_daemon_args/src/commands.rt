@@ -1,11 +1,11 @@
 ghost use Rattle.std.specs.Prelude.{◌≡◌, true};
 ghost use Rattle.clap.specs.Words.{App, app_of, new_app, with_subcommand};
 ghost use Rattle.rly_daemon_args.specs.HelpersBuilt.{IsBuilt};
-ghost use Rattle.rly_daemon_args.specs.CommandLine.{audit_app, format_app, get_app, key_app, plan_app, play_app};
+ghost use Rattle.rly_daemon_args.specs.CommandLine.{audit_app, format_app, get_app, key_app, network_app, plan_app, play_app};
 ghost use Rattle.rly_daemon_args.specs.CommandLine.{put_app, rly_app, rly_top, serve_app, sim_app};
 
 use crate::arguments::{
-    at, batch, destination, file_option, flag, gather, limit, number, payload, with_arg,
+    at, batch, destination, file_option, flag, gather, limit, number, paths, payload, with_arg,
     with_bare_codel, with_option, with_params, with_path, with_sizes,
 };
 use clap::Command;
@@ -75,6 +75,16 @@ const GET: &str =
 flushed: after a kill the last payload may be printed again, and no other. Without `--follow` it prints the files
 that are there, and ends with status 0 also if there is none. One `get` at a time uses a folder.";
 
+/// Notes in the help of `network`.
+const NETWORK: &str =
+    "check PLAN[=DEVICE]..  prints what the plans disagree on, a line for each. With a DEVICE, of its parameters too
+check NET              the same for the plans of a network file
+write NET DIR          writes for each station of NET its plan, its `rly format` command, its unit's settings and
+                       the keys that are missing to DIR/NAME, and the ids of its peers and hops beside NET
+draw NET               prints stations, links, contacts and paths in DOT
+Status 0: nothing disagrees. 1: something does, and nothing was written; or a file was refused.
+A key that is there is never written. Files that stay the same aren't touched.";
+
 /// The help of a folder's path.
 const FOLDER: &str = "The folder of a peer or a hop, as the contact plan names it";
 
@@ -97,7 +107,8 @@ pub(crate) fn program<'a>(alloc: Global) -> Result<Command<'a>, AllocError>
     let with_key = with_command(with_serve, Ok(key(alloc)));
     let with_plan = with_command(with_key, plan(alloc));
     let with_put = with_command(with_plan, put(alloc));
-    with_command(with_put, get(alloc))
+    let with_get = with_command(with_put, get(alloc));
+    with_command(with_get, network(alloc))
 }
 
 /// The program, without its commands.
@@ -345,6 +356,37 @@ fn get<'a>(alloc: Global) -> Result<Command<'a>, AllocError>
         "Wait for more files, until interrupted or `--count` payloads are printed",
     );
     with_arg(with_count, follow)
+}
+
+fn network<'a>(alloc: Global) -> Result<Command<'a>, AllocError>
+    ensures { IsBuilt network_app result }
+{
+    let bare = command_with_help(
+        alloc,
+        "network",
+        "Checks the plans of a network, writes them from one file, or draws it",
+        NETWORK,
+    );
+    let with_act = with_path(
+        alloc,
+        Ok(bare),
+        "act",
+        "check|write|draw",
+        "What is done with the network",
+    );
+    let files = paths(
+        alloc,
+        "files",
+        "FILE",
+        "Plans, or a network file and a folder",
+    );
+    let with_files = with_arg(with_act, files);
+    let changed = flag(
+        alloc,
+        "changed",
+        "With `write`: print the name of each station that got something new",
+    );
+    with_arg(with_files, changed)
 }
 
 /// A command with its help texts.

@@ -100,6 +100,25 @@ pub enum Settings<'a> {
         /// Whether it waits for more.
         follow: bool,
     },
+    /// What the plans of a network, or one network file, disagree on.
+    NetworkCheck {
+        /// The paths of the plans, each with `=` and its device's if that is given, or that of the network file.
+        names: &'a [&'a str],
+    },
+    /// The files of each station of a network are written.
+    NetworkWrite {
+        /// The path of the network file.
+        file: &'a str,
+        /// The path of the folder that has a folder for each station.
+        folder: &'a str,
+        /// Whether the stations that got something new are printed.
+        changed: bool,
+    },
+    /// The picture of a network.
+    NetworkDraw {
+        /// The path of the network file.
+        file: &'a str,
+    },
 }
 
 /// The fault of a command line without settings.

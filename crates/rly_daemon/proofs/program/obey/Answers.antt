@@ -74,5 +74,32 @@ returns-in-Plan-clause-over g c = never_over _ c.of-in-Plan.result c.of-in-Plan.
 pub returns-in-Get-clause-over : goal.returns-in-Get-clause-over
 returns-in-Get-clause-over g c = never_over _ c.get_files.result c.get_files.ensures.over
 
+pub returns-in-NetworkCheck-clause-done : goal.returns-in-NetworkCheck-clause-done
+returns-in-NetworkCheck-clause-done g c = rw c.in-NetworkCheck.is (then_ok c.check_network.result c.check_network.ensures.agree (λ agree. (refl, agree, refl)))
+
+pub returns-in-NetworkWrite-clause-done : goal.returns-in-NetworkWrite-clause-done
+returns-in-NetworkWrite-clause-done g c = rw c.in-NetworkWrite.is (then_ok c.write_network.result c.write_network.ensures.written (λ printed. (refl, printed, refl)))
+
+pub returns-in-NetworkDraw-clause-done : goal.returns-in-NetworkDraw-clause-done
+returns-in-NetworkDraw-clause-done g c = rw c.in-NetworkDraw.is (then_ok c.draw_network.result c.draw_network.ensures.drawn (λ printed. (refl, printed, refl)))
+
+pub returns-in-NetworkCheck-clause-refused : goal.returns-in-NetworkCheck-clause-refused
+returns-in-NetworkCheck-clause-refused g c = rw c.in-NetworkCheck.is (λ out. absurd out)
+
+pub returns-in-NetworkWrite-clause-refused : goal.returns-in-NetworkWrite-clause-refused
+returns-in-NetworkWrite-clause-refused g c = rw c.in-NetworkWrite.is (λ out. absurd out)
+
+pub returns-in-NetworkDraw-clause-refused : goal.returns-in-NetworkDraw-clause-refused
+returns-in-NetworkDraw-clause-refused g c = rw c.in-NetworkDraw.is (λ out. absurd out)
+
+pub returns-in-NetworkCheck-clause-over : goal.returns-in-NetworkCheck-clause-over
+returns-in-NetworkCheck-clause-over g c = never_over _ c.check_network.result c.check_network.ensures.over
+
+pub returns-in-NetworkWrite-clause-over : goal.returns-in-NetworkWrite-clause-over
+returns-in-NetworkWrite-clause-over g c = never_over _ c.write_network.result c.write_network.ensures.over
+
+pub returns-in-NetworkDraw-clause-over : goal.returns-in-NetworkDraw-clause-over
+returns-in-NetworkDraw-clause-over g c = never_over _ c.draw_network.result c.draw_network.ensures.over
+
 pub returns-in-Put-clause-over : goal.returns-in-Put-clause-over
 returns-in-Put-clause-over g c = rw c.in-Put.is (may_be_over c.put_files.result)

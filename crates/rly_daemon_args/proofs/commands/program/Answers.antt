@@ -1,5 +1,5 @@
 use Rattle.rly_daemon_args.specs.CommandLine.{rly_app}
-use Rattle.rly_daemon_args.proofs.Apps.{audit_plain, format_plain, get_plain, key_plain, plan_plain, play_plain, put_plain, serve_plain, sim_plain}
+use Rattle.rly_daemon_args.proofs.Apps.{audit_plain, format_plain, get_plain, key_plain, network_plain, plan_plain, play_plain, put_plain, serve_plain, sim_plain}
 use Rattle.rly_daemon_args.proofs.commands.program.Goals as goal
 
 pub returns : goal.returns
@@ -13,4 +13,5 @@ returns c =
     let key = c.with_command-with_key.ensures _ _ serve c.key.ensures key_plain in
     let plan = c.with_command-with_plan.ensures _ _ key c.plan.ensures plan_plain in
     let put = c.with_command-with_put.ensures _ _ plan c.put.ensures put_plain in
-    c.with_command.ensures _ _ put c.get.ensures get_plain
+    let get = c.with_command-with_get.ensures _ _ put c.get.ensures get_plain in
+    c.with_command.ensures _ _ get c.network.ensures network_plain

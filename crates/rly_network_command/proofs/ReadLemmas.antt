@@ -1,0 +1,25 @@
+-- Plans that are read after others.
+use Rattle.std.proofs.Common.{◌≡◌, ℕ, List, [], ◌∷◌, ◌++◌, Ok, refl}
+use Rattle.std.proofs.lemmas.List.{map-append}
+use Rattle.std.proofs.lemmas.List.Elements.{All-append, All-cons, All-nil}
+use Rattle.rly_core.specs.declared.params.Params.{Params}
+use Rattle.rly_network.specs.declared.station_plan.StationPlan.{StationPlan}
+use Rattle.rly_network_command.specs.NetworkCheck.{AreRead, IsReadOf, PlanRead, look_of, station_of}
+use Rattle.rly_network_folder.specs.ShelfCalls.{ShelfCall}
+use Rattle.rly_plan.specs.Passes.{plan_of_text}
+
+pub none_read : AreRead [] [] [] []
+none_read = record { reads = []; named = refl; beside = refl; are = All-nil (λ r. plan_of_text r.text ≡ Ok r.plan); stand = refl; looked = refl }
+
+pub one_more_read : (names : List (List ℕ)) (devices : List Params) (stations : List StationPlan) (calls : List ShelfCall) (name : List ℕ) (device : Params)
+    (station : StationPlan) (read : PlanRead) → AreRead names devices stations calls → IsReadOf name device read → station ≡ station_of read
+    → AreRead (names ++ name ∷ []) (devices ++ device ∷ []) (stations ++ station ∷ []) (calls ++ look_of read ∷ [])
+one_more_read names devices stations calls name device station read before is stands = record {
+  reads = before.reads ++ read ∷ [];
+  named = rw (map-append, before.named, is.0) refl;
+  beside = rw (map-append, before.beside, is.1) refl;
+  are = All-append (λ (r : PlanRead). plan_of_text r.text ≡ Ok r.plan) before.reads (read ∷ []) before.are
+      (All-cons (λ (r : PlanRead). plan_of_text r.text ≡ Ok r.plan) read [] is.2 (All-nil (λ (r : PlanRead). plan_of_text r.text ≡ Ok r.plan)));
+  stand = rw (map-append, stands, before.stand) refl;
+  looked = rw (map-append, before.looked) refl;
+}

@@ -1,0 +1,4 @@
+pub mod Looks
+pub mod NetworkCheck
+pub mod NetworkFiles
+pub mod NetworkWrite

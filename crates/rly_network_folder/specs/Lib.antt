@@ -1,0 +1,2 @@
+pub mod ShelfCalls
+pub mod Wanted
