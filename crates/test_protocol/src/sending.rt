@@ -16,9 +16,8 @@ const GREATEST: u64 = 1_099_511_627_775;
 /// The last number of 64 bits.
 const LAST: u64 = 18_446_744_073_709_551_615;
 
-/// What a core is told: a turn while a contact is open, or while none is; a window's first number and the one after its
-/// last; the number of a Pick; that of a Fetch, and its limit; custody of the hop's station up to a number; and what has
-/// no number.
+/// What a core is told: a turn while a contact is open, or while none is; a window's first number and the one after its last;
+/// the number of a Pick, of a Fetch with its limit, of a custody of the hop's station; and what has no number.
 #[derive(Clone, Copy)]
 enum Told {
     Open,
