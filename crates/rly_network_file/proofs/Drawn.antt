@@ -1,5 +1,5 @@
 -- One station more in the picture.
-use Rattle.std.proofs.Common.{◌≡◌, ◌∙◌, ℕ, ◌+◌, List, arith, [], ◌∷◌, ◌++◌, ap, append_assoc, append-nil, length, refl, suc, sym}
+use Rattle.std.proofs.Common.{◌≡◌, ◌∙◌, ℕ, ◌+◌, List, arith, [], ◌∷◌, ◌++◌, ap, append_assoc, append-nil, length, sym}
 use Rattle.std.proofs.lemmas.List.{length-append}
 use Rattle.rly_network_file.specs.Picture.{station_line, station_lines}
 

@@ -82,11 +82,7 @@ pub(crate) fn items_at<I: Item>(
     }
 }
 
-fn read_each<I: Item>(
-    alloc: Global,
-    values: &Array,
-    place: &str,
-) -> Result<Vec<I>, NetworkFault>
+fn read_each<I: Item>(alloc: Global, values: &Array, place: &str) -> Result<Vec<I>, NetworkFault>
     ensures { IfOk result (λ items. each_item I.shape (array_view values.now) ≡ Some items.items) }
 {
     let mut items = Vec::new(alloc);

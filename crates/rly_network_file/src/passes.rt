@@ -149,7 +149,12 @@ impl Passes {
         let end = moment_of(cell_of(line, columns.end));
         match (begin, end) {
             (Some(begin), Some(end)) => {
-                push_draft(alloc, &mut self.contacts, ContactDraft { begin, end }, place)
+                push_draft(
+                    alloc,
+                    &mut self.contacts,
+                    ContactDraft { begin, end },
+                    place,
+                )
             }
             _ => {
                 let text = "write times with Z or an offset, or microseconds since the Unix epoch";

@@ -7,9 +7,7 @@ ghost use Rattle.rly_network_file.specs.NetworkText.{numbers_in};
 use crate::fault::{NetworkFault, fault_at, fault_of_key};
 use crate::items::{Item, items_at, number_in};
 use crate::names::{Name, push_name};
-use crate::values::{
-    check_keys, flag_at, name_at, number_at, table_of, tables_at, text_at,
-};
+use crate::values::{check_keys, flag_at, name_at, number_at, table_of, tables_at, text_at};
 use rly_core::{Params, limits};
 use std::alloc::Global;
 use std::marker::Model;

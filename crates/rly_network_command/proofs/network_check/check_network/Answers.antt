@@ -3,23 +3,23 @@ use Rattle.rly_network_folder.proofs.Puts.{calls_then}
 use Rattle.rly_network_folder.specs.ShelfCalls.{Looked}
 use Rattle.rly_network_command.proofs.network_check.check_network.Goals as goal
 
-pub returns-in_default : goal.returns-in_default
-returns-in_default g c =
+pub returns-in_default-clause-checked : goal.returns-in_default-clause-checked
+returns-in_default-clause-checked g c =
     let looks = c.sole_network.ensures.looked in
-    let plans = c.in_ok-agree.ensures in (
+    let plans = c.in_ok-agree.ensures.checked in (
       looks.0 ++ plans.0,
       inl (record { first = looks.0; reading = plans.0; only = looks.1; all = refl; checked = plans.1 }),
       calls_then _ _ _ _ _ looks.2 plans.2,
     )
 
-pub returns : goal.returns
-returns g c =
-    let file = c.in_ok-agree-2.ensures in (
-      Looked c.in-Some.name.now (Some (string_bytes c.in-Some.text)) ∷ file.0 ∷ [],
+pub returns-clause-checked : goal.returns-clause-checked
+returns-clause-checked g c =
+    let file = c.in_ok-agree-2.ensures.checked in (
+      Looked c.in-Some.name.now (Some (string_bytes c.in-Some.text)) ∷ file.0,
       inr (record {
         file = c.in-Some.name.now;
         text = string_bytes c.in-Some.text;
-        call = file.0;
+        more = file.0;
         alone = c.in-Some.ensures.alone;
         network = c.in-Some.ensures.network;
         looked = refl;

@@ -15,7 +15,7 @@ no_device = record { hops = 0; peers = 0; window = 0; items = 0; bytes = 0; maxp
 pub loop-index-preserved : goal.loop-index-preserved
 loop-index-preserved g c =
     let before = c.loop-index.invariant in
-    let read = c.in-Ok.ensures in
+    let read = c.in-Ok.ensures.read in
     let at = c.loop-index.index in
     let within : at < length c.args.devices.now = rw c.requires c.loop-index-test.true in
     rw (

@@ -1,4 +1,4 @@
-use Rattle.std.proofs.Common.{◌≡◌, Some, refl, sym}
+use Rattle.std.proofs.Common.{refl, sym}
 use Rattle.rly_plan_syntax.proofs.DraftLemmas.{behind_none, read_all, read_one}
 use Rattle.rly_network_file.proofs.items.read_each.Goals as goal
 
