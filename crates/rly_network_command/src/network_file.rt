@@ -8,6 +8,7 @@ ghost use Rattle.rly_network_file.specs.NetworkText.{HasStations, is_network};
 ghost use Rattle.rly_network_folder.specs.ShelfCalls.{AllCalls, Calls, Looked, OnlyLooked, ShelfCall, is_look};
 
 use crate::network_command_fault::NetworkCommandFault;
+use crate::station_wishes::push;
 use rly_network_file::{
     NetworkFault, NetworkFile, NetworkIds, PassFile, StationFiles, assign, is_network, pass_files,
     write,
@@ -48,15 +49,32 @@ pub(crate) fn passes_in<S: Shelf>(
     file: &str,
     text: &str,
 ) -> Result<Vec<PassFile>, NetworkCommandFault>
-    ensures looked { OnlyLooked (S.calls shelf.old) (S.calls shelf.new) }
+    ensures { OnlyLooked (S.calls shelf.old) (S.calls shelf.new) }
 {
-    let mut passes = pass_files(alloc, text)?;
-    for index in 0..passes.len() {
-        let path = path_beside(alloc, file, passes[index].path.as_str())?;
-        let text = text_in(alloc, shelf, path.as_str())?;
-        passes[index].text = text;
+    let named = pass_files(alloc, text)?;
+    let mut passes = Vec::new(alloc);
+    for pass in &named {
+        let read = read_pass(alloc, shelf, file, pass)?;
+        push(&mut passes, read)?;
     }
     Ok(passes)
+}
+
+fn read_pass<S: Shelf>(
+    alloc: Global,
+    shelf: &mut S,
+    file: &str,
+    pass: &PassFile,
+) -> Result<PassFile, NetworkCommandFault>
+    ensures { OnlyLooked (S.calls shelf.old) (S.calls shelf.new) }
+{
+    let path = path_beside(alloc, file, pass.path.as_str())?;
+    let text = text_in(alloc, shelf, path.as_str())?;
+    Ok(PassFile {
+        place: pass.place.clone()?,
+        path: pass.path.clone()?,
+        text,
+    })
 }
 
 /// A path, from the folder of a file.
