@@ -1,5 +1,5 @@
 use Rattle.std.proofs.Common.{[], ◌∷◌, ◌++◌, Some, inl, inr, refl, string_bytes}
-use Rattle.rly_network_folder.proofs.Puts.{calls_then}
+use Rattle.rly_network_folder.proofs.Puts.{calls_then, looked_then}
 use Rattle.rly_network_folder.specs.ShelfCalls.{Looked}
 use Rattle.rly_network_command.proofs.network_check.check_network.Goals as goal
 
@@ -23,7 +23,19 @@ returns-clause-checked g c =
         alone = c.in-Some.ensures.alone;
         network = c.in-Some.ensures.network;
         looked = refl;
-        checked = file.1;
+        checked = rw c.as_str.ensures.value at file.1;
       }),
       calls_then _ _ _ _ _ c.in-Some.ensures.called file.2,
     )
+
+pub returns-in_err-agree-clause-looked : goal.returns-in_err-agree-clause-looked
+returns-in_err-agree-clause-looked g c = looked_then _ _ _ c.sole_network.ensures.looked c.check_plans.ensures.looked
+
+pub returns-in_default-clause-looked : goal.returns-in_default-clause-looked
+returns-in_default-clause-looked g c = looked_then _ _ _ c.sole_network.ensures.looked c.check_plans.ensures.looked
+
+pub returns-in_err-agree-2-clause-looked : goal.returns-in_err-agree-2-clause-looked
+returns-in_err-agree-2-clause-looked g c = looked_then _ _ _ c.sole_network.ensures.looked c.check_file.ensures.looked
+
+pub returns-clause-looked : goal.returns-clause-looked
+returns-clause-looked g c = looked_then _ _ _ c.sole_network.ensures.looked c.check_file.ensures.looked

@@ -5,9 +5,9 @@ use Rattle.rly_network_command.proofs.network_check.run_network_check.Goals as g
 
 pub check_network-requires : goal.check_network-requires
 check_network-requires g c =
-    rw c.deref.ensures.value (devices_beside _ _ c.in_ok-devices.ensures ∙ length-map _ c.args.names.now)
+    rw c.deref.ensures.value (devices_beside _ _ c.in_ok-devices.ensures ∙ length-map c.args.names.now _)
 
 pub returns-clause-checked : goal.returns-clause-checked
 returns-clause-checked g c =
     let it = c.in_ok-agree.ensures.checked in
-    (c.deref.result.now, (rw c.deref.ensures.value c.in_ok-devices.ensures), it.0, it.1)
+    (c.deref.result.now, (rw c.deref.ensures.value c.in_ok-devices.ensures), (it.0, it.1))

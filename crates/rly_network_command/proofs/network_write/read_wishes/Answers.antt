@@ -9,7 +9,7 @@ returns-clause-wished g c =
         path = string_bytes c.in_ok-path.path;
         ids_text = string_bytes c.in_ok-path.text;
         read = read.1;
-        kept = c.in_ok-wanted_ids.ensures;
+        kept = rw c.as_str.ensures.value at c.in_ok-wanted_ids.ensures;
         each = rw c.deref.ensures.value at c.in_ok-wanted.ensures;
       },
       read.2,

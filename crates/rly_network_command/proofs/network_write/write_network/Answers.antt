@@ -25,3 +25,6 @@ returns-clause-written g c =
 
 pub returns-in_err-wishes-clause-told : goal.returns-in_err-wishes-clause-told
 returns-in_err-wishes-clause-told g c = told_at _ _ c.from_residual.result _ _ c.read_wishes.ensures.looked
+
+pub returns-in_err-new-clause-told : goal.returns-in_err-new-clause-told
+returns-in_err-new-clause-told g c = ?
