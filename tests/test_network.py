@@ -2,11 +2,14 @@
 (`docs/NETWORK.md`). Which of the two a planted disagreement is looked for in stands in its table: `PLANTED`, `DEVICES` and `REFUSED`
 are of plans, `IN_FILE` and the tests of ids of a network file."""
 import os
+import re
 import shutil
 import stat
+import subprocess
 import tomllib
+import unittest
 
-from program import TOP, Rows
+from program import RLY, TOP, Rows
 
 ALWAYS = "contacts = [[0, 4503599627370495]]"
 
@@ -287,6 +290,38 @@ IN_FILE = [
 ]
 
 
+PASSES = """# Two passes of a satellite.
+hop,begin,end,where
+
+2,2027-03-01T06:00:00Z,2027-03-01T07:10:00+01:00,high
+2, 1803924000000000 ,2027-03-01T18:10:00Z,low
+"""
+AS_CONTACT = ": a contact is [from, to] in microseconds since the Unix epoch, from before to, below 2^52"
+AS_TIME = ": write times with Z or an offset, or microseconds since the Unix epoch"
+IN_ORDER = ":5: it begins before the one before it ends; write contacts in order"
+
+# The same of a file of passes.
+IN_PASSES = [
+    ("a pass that ends before it begins", "18:10:00Z", "17:10:00Z", f":5{AS_CONTACT}"),
+    ("a pass without a length", "18:10:00Z", "18:00:00Z", f":5{AS_CONTACT}"),
+    ("a pass too late for a plan", "2027-03-01T18:10:00Z", "4503599627370496", f":5{AS_CONTACT}"),
+    ("a pass before 1970", "2027-03-01T06:00:00Z", "-1", f":4{AS_CONTACT}"),
+    ("passes that overlap", "1803924000000000", "1803881399999999", IN_ORDER),
+    ("passes out of order", " 1803924000000000 ,2027-03-01T18:10:00Z", "1,2", IN_ORDER),
+    ("no number", "1803924000000000", "soon", f":5{AS_TIME}"),
+    ("a number with a fraction", "1803924000000000", "1803924000000000.5", f":5{AS_TIME}"),
+    ("an empty cell", " 1803924000000000 ", "", f":5{AS_TIME}"),
+    ("a time without an offset", "06:00:00Z", "06:00:00", f":4{AS_TIME}"),
+    ("a day that isn't there", "2027-03-01T06", "2027-02-29T06", f":4{AS_TIME}"),
+    ("a cell too few", ",low", "", ":5: write a cell for each column"),
+    ("a cell too many", ",low", ",low,east", ":5: write a cell for each column"),
+    ("passes of two hops", "2, 18", "3, 18", ":5: it is of another hop; write a file for each"),
+    ("no such column", "begin", "from", ":2: name the columns begin and end"),
+    ("no pass", PASSES[PASSES.index("2,2027"):], "", ": no pass follows"),
+    ("an empty file", PASSES, "", ": no pass follows"),
+]
+
+
 class OfNetworks(Rows):
     def network(self, old="", new=""):
         self.assertIn(old, NETWORK)
@@ -451,6 +486,76 @@ class OfNetworks(Rows):
         self.assertEqual(run.returncode, 1)
         self.assertTrue(run.stderr.startswith(b"rly: network failed\nrly: network: "), run.stderr)
         self.expect_stuck("network", "draw", "network.toml")
+
+    def passes(self, text, name="passes.csv", to="passes.csv"):
+        self.network('contacts = "satellite"', f'contacts = "{to}"')
+        self.write(name, text)
+
+    def test_contacts_from_a_file(self):
+        """The plans are those that the same contacts in the network file give, and a changed file changes its stations alone."""
+        self.network()
+        self.expect("network", "write", "network.toml", "stations")
+        before = self.files()
+        self.passes(PASSES)
+        self.expect_found("")
+        self.expect_written()
+        self.assertEqual(self.files(), before)
+        self.write("passes.csv", PASSES.replace("18:10:00Z", "18:20:00Z"))
+        self.expect_written("relay", "shore")
+        after = self.files()
+        self.assertEqual({path for path in before if before[path] != after[path]}, {"stations/relay/plan.toml", "stations/shore/plan.toml"})
+        for name, hop in (("relay", 2), ("shore", 1)):
+            plan = tomllib.loads(self.read(f"stations/{name}/plan.toml").decode())
+            contacts = [[1803880800000000, 1803881400000000], [1803924000000000, 1803925200000000]]
+            self.assertEqual([it["contacts"] for it in plan["hop"] if "remote" in it][hop - 1], contacts)
+        run = self.rly("network", "draw", "network.toml")
+        self.assertIn(b"passes.csv 2 contacts", run.stdout)
+
+    def test_the_path_of_a_file_of_passes(self):
+        """It begins at the folder of the network file, or it is absolute; a folder's `out` has one, too."""
+        os.makedirs(self.path("net/passes"))
+        for to in ("passes/a.csv", "./passes/a.csv", self.path("net/passes/a.csv")):
+            self.passes(PASSES, "net/passes/a.csv", to)
+            text = self.read("network.toml").decode().replace('out = "desk/out"', f'out = "desk/out"\ncontacts = "{to}"')
+            self.write("net/network.toml", text)
+            self.expect("network", "check", "net/network.toml")
+        self.expect("network", "write", "net/network.toml", "stations")
+        plan = tomllib.loads(self.read("stations/shore/plan.toml").decode())
+        self.assertEqual([len(it["contacts"]) for it in plan["hop"]], [2, 2])
+
+    def test_refused_passes(self):
+        for what, old, new, line in IN_PASSES:
+            with self.subTest(what):
+                self.assertIn(old, PASSES)
+                self.passes(PASSES.replace(old, new, 1))
+                self.expect_found(f"link[2].contacts: passes.csv{line}\n")
+        many = "\n".join(f"{2 * it},{2 * it + 1}" for it in range(4097))
+        self.passes(f"begin,end\n{many}\n")
+        self.expect_found("link[2].contacts: passes.csv: a hop has at most 4096 contacts\n")
+        os.remove(self.path("passes.csv"))
+        self.expect_found("link[2].contacts: passes.csv: not there\n")
+        errors = "rly: network failed\nrly: network: passes.csv: "
+        self.write("passes.csv", b"begin,end\n\xff\n")
+        self.expect("network", "check", "network.toml", errors=f"{errors}not UTF-8\n", status=1)
+        os.remove(self.path("passes.csv"))
+        os.makedirs(self.path("passes.csv"))
+        for words in (("check", "network.toml"), ("write", "network.toml", "stations"), ("draw", "network.toml")):
+            self.expect("network", *words, errors=f"{errors}invalid input parameter\n", status=1)
+        self.assertFalse(os.path.exists(self.path("stations")))
+
+    @unittest.skipUnless(os.path.exists("/usr/bin/strace"), "there is no strace")
+    def test_new_folders_are_durable(self):
+        """Each folder that gets a new one is synced before anything is written in the new one."""
+        self.network()
+        words = ["strace", "-f", "-y", "-e", "trace=mkdir,mkdirat,fsync,rename,renameat,renameat2", "-o", self.path("trace")]
+        run = subprocess.run([*words, RLY, "network", "write", "network.toml", "a/b"], capture_output=True, timeout=60, cwd=self.folder)
+        self.assertEqual((run.returncode, run.stderr), (0, b""))
+        lines = self.read("trace").decode().splitlines()
+        for folder in ("", "/a", "/a/b"):
+            synced = [at for at, line in enumerate(lines) if re.search(rf"fsync\(\d+<{re.escape(self.folder)}{folder}>", line)]
+            made = [at for at, line in enumerate(lines) if "mkdir" in line and "= 0" in line]
+            put = [at for at, line in enumerate(lines) if "rename" in line and "a/b/buoy/" in line]
+            self.assertTrue(any(max(at for at in made if at < put[0]) < it < put[0] for it in synced), (folder, lines))
 
     def test_draw(self):
         self.network()

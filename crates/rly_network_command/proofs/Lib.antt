@@ -1,3 +1,4 @@
 pub mod LookLemmas
 pub mod WishLemmas
+pub mod PutLemmas
 pub mod ReadLemmas

@@ -1,4 +1,3 @@
-pub mod Looks
 pub mod NetworkCheck
 pub mod NetworkFiles
 pub mod NetworkWrite

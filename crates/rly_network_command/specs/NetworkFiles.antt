@@ -1,9 +1,11 @@
 -- What is read of a network file, and the files of its stations (docs/NETWORK.md).
-use Rattle.std.specs.Prelude.{◌≡◌, ◌≢◌, ◌⊎◌, ℕ, Bool, false, true, List, [], ◌∷◌, ◌++◌, codes, map, string_bytes, String}
+use Rattle.std.specs.Prelude.{◌≡◌, ◌≢◌, ◌⊎◌, ℕ, Bool, true, List, [], ◌∷◌, ◌++◌, codes, map, Option, Some, None, string_bytes, String}
 use Rattle.std.specs.Global.{Global}
 use Rattle.std.specs.List.{filter, list_any}
 use Rattle.std.specs.Str.{bytes_eq}
 use Rattle.rly_network_file.specs.Ids.{Neighbours, are_distinct, keeps}
+use Rattle.rly_network_file.specs.IdsText.{ids_of_text}
+use Rattle.rly_network_file.specs.NetworkText.{HasStations}
 use Rattle.rly_network_file.specs.Written.{IsWritten}
 use Rattle.rly_network_file.specs.declared.station_files.StationFiles.{StationFiles}
 use Rattle.rly_network_folder.specs.declared.wanted.Wanted.{Wanted}
@@ -16,14 +18,22 @@ IsStem file stem = (file ≡ stem ++ codes ".toml") ⊎ ((stem ≡ file) × ((fr
 abbrev pub IsIdsPath : (file path : List ℕ) → Type 0
 IsIdsPath file path = (stem : List ℕ) × IsStem file stem × (path ≡ stem ++ codes ".ids")
 
--- The files of the stations of a network, which disagree on nothing, by ids of which each that was there before keeps its meaning.
-pub record AreStations (were : Bool) (stations : List StationFiles) : Type 0 where
+-- the ids that were there: none if their file wasn't
+abbrev pub WereIds : Option (List ℕ) → List Neighbours → Type 0
+WereIds None before = before ≡ []
+WereIds (Some text) before = ids_of_text text ≡ Some before
+
+-- The files of the stations of a network's text, in its order, which disagree on nothing, by ids of which each that was there before
+-- keeps its meaning, and the text of these ids.
+pub record AreStations (text : List ℕ) (was : Option (List ℕ)) (ids_text : List ℕ) (stations : List StationFiles) : Type 0 where
   pub numbers : List ℕ
   pub before : List Neighbours
   pub ids : List Neighbours
-  pub none : were ≡ false → before ≡ []
+  pub all : HasStations text numbers
+  pub were : WereIds was before
   pub kept : keeps before ids ≡ true
   pub distinct : are_distinct ids ≡ true
+  pub read : ids_of_text ids_text ≡ Some ids
   pub written : IsWritten numbers ids stations
 
 -- the path of a file in a station's folder

@@ -1,22 +1,21 @@
 //! `rly network check`: prints what plans disagree on.
 
-ghost use Rattle.std.specs.Prelude.{◌≡◌, ◌∷◌, [], IfOk, IfSome, List, OnOk, Some, is_some, length, map, string_bytes, true};
+ghost use Rattle.std.specs.Prelude.{◌≡◌, ◌∷◌, [], ℕ, IfErr, IfOk, IfSome, List, None, OnOk, Some, length, map, option_map, string_bytes, true};
 ghost use Rattle.std.specs.Io.KnownBytes.{Appends};
 ghost use Rattle.toml.specs.Parse.{parse_document};
-ghost use Rattle.rly_network_command.specs.Looks.{OnlyLooked};
-ghost use Rattle.rly_network_command.specs.NetworkCheck.{HasChecked, HasCheckedNetwork, HasCheckedPlans, HasCheckedText};
+ghost use Rattle.rly_network_command.specs.NetworkCheck.{HasChecked, HasCheckedNetwork, HasCheckedPlans, HasCheckedText, IsQuiet};
 ghost use Rattle.rly_network_command.specs.NetworkFiles.{AreStations};
 ghost use Rattle.rly_network_file.specs.NetworkText.{is_network};
 ghost use Rattle.rly_network_file.specs.declared.station_files.StationFiles.{StationFiles as AFiles};
-ghost use Rattle.rly_network_folder.specs.ShelfCalls.{AllCalls, Calls, Looked, ShelfCall};
+ghost use Rattle.rly_network_folder.specs.ShelfCalls.{AllCalls, Calls, Looked, OnlyLooked, ShelfCall};
 
 use crate::network_command_fault::NetworkCommandFault;
-use crate::network_file::{ids_path, network_text, station_files, text_in};
+use crate::network_file::{ids_path, network_text, passes_in, station_files, text_in};
 use crate::plan_reads::{devices_of, read_stations};
 use rly_core::Params;
 use rly_daemon_lines::TextFault;
 use rly_network::{check, lines_of};
-use rly_network_file::{NetworkFault, NetworkFile};
+use rly_network_file::{NetworkFault, NetworkFile, PassFile};
 use rly_network_folder::{FileShelf, Shelf};
 use std::alloc::{AllocError, Global};
 use std::fs::{File, Files};
@@ -30,8 +29,9 @@ pub fn run_network_check<H: AllocGlobal + Files<File = File>, W: Write>(
     names: &[&str],
     writer: &mut W,
 ) -> Result<bool, NetworkCommandFault>
-    ensures { IfOk result (λ agree.
+    ensures checked { IfOk result (λ agree.
         HasCheckedNetwork (map (λ s. s.now) names.now) agree (W.contents writer.old) (W.contents writer.new)) }
+    ensures quiet { IfErr result (λ fault. IsQuiet fault (W.contents writer.old) (W.contents writer.new)) }
 {
     let devices = devices_of(rt, names)?;
     let mut shelf = FileShelf::new(rt.alloc(), rt);
@@ -48,9 +48,11 @@ pub fn check_network<S: Shelf, W: Write>(
     writer: &mut W,
 ) -> Result<bool, NetworkCommandFault>
     requires { length devices.now ≡ length names.now }
-    ensures { IfOk result (λ agree. (calls : List ShelfCall)
+    ensures checked { IfOk result (λ agree. (calls : List ShelfCall)
         × HasChecked (map (λ s. s.now) names.now) devices.now agree (W.contents writer.old) (W.contents writer.new) calls
         × AllCalls (S.calls shelf.old) (S.calls shelf.new) calls) }
+    ensures looked { OnlyLooked (S.calls shelf.old) (S.calls shelf.new) }
+    ensures quiet { IfErr result (λ fault. IsQuiet fault (W.contents writer.old) (W.contents writer.new)) }
 {
     let Some((name, text)) = sole_network(alloc, shelf, names) else {
         let agree = check_plans(alloc, shelf, names, devices, writer)?;
@@ -89,13 +91,16 @@ fn check_file<S: Shelf, W: Write>(
     text: &str,
     writer: &mut W,
 ) -> Result<bool, NetworkCommandFault>
-    ensures { IfOk result (λ agree. (call : ShelfCall)
-        × HasCheckedText name.now agree (W.contents writer.old) (W.contents writer.new) call
-        × Calls (S.calls shelf.old) (S.calls shelf.new) call) }
+    ensures checked { IfOk result (λ agree. (calls : List ShelfCall)
+        × HasCheckedText name.now text.now agree (W.contents writer.old) (W.contents writer.new) calls
+        × AllCalls (S.calls shelf.old) (S.calls shelf.new) calls) }
+    ensures looked { OnlyLooked (S.calls shelf.old) (S.calls shelf.new) }
+    ensures quiet { IfErr result (λ fault. IsQuiet fault (W.contents writer.old) (W.contents writer.new)) }
 {
     let ids = ids_path(alloc, name)?;
+    let passes = passes_in(alloc, shelf, name, text)?;
     let before = text_in(alloc, shelf, ids.as_str())?;
-    if let Some(lines) = found_in(alloc, text, &before)? {
+    if let Some(lines) = found_in(alloc, text, &passes, &before)? {
         put(writer, lines.as_str())?;
         return Ok(false);
     }
@@ -107,11 +112,13 @@ fn check_file<S: Shelf, W: Write>(
 fn found_in(
     alloc: Global,
     text: &str,
+    passes: &[PassFile],
     before: &Option<String>,
 ) -> Result<Option<String>, AllocError>
-    ensures { IfOk result (λ found. found ≡ None → (stations : List AFiles) × AreStations (is_some before.now) stations) }
+    ensures { IfOk result (λ found. found ≡ None → (ids_text : List ℕ) × (stations : List AFiles)
+        × AreStations text.now (option_map string_bytes before.now) ids_text stations) }
 {
-    match files_of(alloc, text, before) {
+    match files_of(alloc, text, passes, before) {
         Ok(()) => Ok(None),
         Err(NetworkFault::Found(lines)) => Ok(Some(lines)),
         Err(NetworkFault::Memory) => Err(AllocError),
@@ -119,10 +126,16 @@ fn found_in(
 }
 
 /// The files of its stations can be written.
-fn files_of(alloc: Global, text: &str, before: &Option<String>) -> Result<(), NetworkFault>
-    ensures { OnOk result ((stations : List AFiles) × AreStations (is_some before.now) stations) }
+fn files_of(
+    alloc: Global,
+    text: &str,
+    passes: &[PassFile],
+    before: &Option<String>,
+) -> Result<(), NetworkFault>
+    ensures { OnOk result ((ids_text : List ℕ) × (stations : List AFiles)
+        × AreStations text.now (option_map string_bytes before.now) ids_text stations) }
 {
-    let network = NetworkFile::from_toml(alloc, text)?;
+    let network = NetworkFile::from_toml(alloc, text, passes)?;
     station_files(alloc, &network, before)?;
     Ok(())
 }
@@ -136,9 +149,11 @@ fn check_plans<S: Shelf, W: Write>(
     writer: &mut W,
 ) -> Result<bool, NetworkCommandFault>
     requires { length devices.now ≡ length names.now }
-    ensures { IfOk result (λ agree. (calls : List ShelfCall)
+    ensures checked { IfOk result (λ agree. (calls : List ShelfCall)
         × HasCheckedPlans (map (λ s. s.now) names.now) devices.now agree (W.contents writer.old) (W.contents writer.new) calls
         × AllCalls (S.calls shelf.old) (S.calls shelf.new) calls) }
+    ensures looked { OnlyLooked (S.calls shelf.old) (S.calls shelf.new) }
+    ensures quiet { IfErr result (λ fault. IsQuiet fault (W.contents writer.old) (W.contents writer.new)) }
 {
     let stations = read_stations(alloc, shelf, names, devices)?;
     let found = check(alloc, &stations)?;

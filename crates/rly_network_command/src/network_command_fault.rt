@@ -32,6 +32,11 @@ pub enum NetworkCommandFault {
 }
 
 impl From<TextFault> for NetworkCommandFault {
+    ghost use Rattle.std.specs.Prelude.{ℕ, List, Option};
+    ghost use Rattle.rly_network_command.specs.NetworkCheck.{IsQuiet};
+
+    ghost from_gives = { λ _ fault. (old new : Option (List ℕ)) → IsQuiet fault old new };
+
     fn from(fault: TextFault) -> NetworkCommandFault {
         NetworkCommandFault::Text(fault)
     }
@@ -44,11 +49,9 @@ impl From<ShelfFault> for NetworkCommandFault {
 }
 
 impl From<PutFault> for NetworkCommandFault {
-    ghost use Rattle.std.specs.Prelude.{List, Option};
-    ghost use Rattle.rly_network_command.specs.NetworkWrite.{IsTold};
-    ghost use Rattle.rly_network_folder.specs.ShelfCalls.{ShelfCall};
+    ghost use Rattle.rly_network_command.specs.NetworkWrite.{IsOfPut};
 
-    ghost from_gives = { λ _ fault. (old new : Option (List ShelfCall)) → IsTold fault old new };
+    ghost from_gives = { λ _ fault. IsOfPut fault };
 
     fn from(fault: PutFault) -> NetworkCommandFault {
         match fault {

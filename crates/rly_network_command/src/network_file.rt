@@ -1,15 +1,17 @@
 //! A network file, and the file of its ids.
 
-ghost use Rattle.std.specs.Prelude.{◌≡◌, IfOk, IfSome, List, OnErr, Some, is_some, option_map, string_bytes, true, ℕ};
+ghost use Rattle.std.specs.Prelude.{◌≡◌, ◌∷◌, [], IfOk, IfSome, List, Some, option_map, string_bytes, true, unwrap_or, ℕ};
+ghost use Rattle.std.specs.List.{list_all};
 ghost use Rattle.toml.specs.Parse.{parse_document};
-ghost use Rattle.rly_network_command.specs.Looks.{OnlyLooked};
-ghost use Rattle.rly_network_command.specs.NetworkFiles.{AreStations, IsIdsPath, IsStem};
-ghost use Rattle.rly_network_file.specs.NetworkText.{is_network};
-ghost use Rattle.rly_network_folder.specs.ShelfCalls.{Calls, Looked};
+ghost use Rattle.rly_network_command.specs.NetworkFiles.{AreStations, IsIdsPath, IsStem, WereIds};
+ghost use Rattle.rly_network_file.specs.NetworkText.{HasStations, is_network};
+ghost use Rattle.rly_network_folder.specs.ShelfCalls.{AllCalls, Calls, Looked, OnlyLooked, ShelfCall, is_look};
 
 use crate::network_command_fault::NetworkCommandFault;
+use crate::station_wishes::push;
 use rly_network_file::{
-    NetworkFault, NetworkFile, NetworkIds, StationFiles, assign, is_network, write,
+    NetworkFault, NetworkFile, NetworkIds, PassFile, StationFiles, assign, is_network, pass_files,
+    write,
 };
 use rly_network_folder::{Shelf, ShelfFault};
 use std::alloc::{AllocError, Global};
@@ -24,8 +26,9 @@ pub(crate) fn network_in<S: Shelf>(
     shelf: &mut S,
     path: &str,
 ) -> Result<NetworkFile, NetworkCommandFault>
-    ensures called { IfOk result (λ _. (text : List ℕ)
-        × Calls (S.calls shelf.old) (S.calls shelf.new) (Looked path.now (Some text))) }
+    ensures called { IfOk result (λ network. (text : List ℕ) × (passes : List ShelfCall)
+        × HasStations text network.numbers.items × (list_all is_look passes ≡ true)
+        × AllCalls (S.calls shelf.old) (S.calls shelf.new) (Looked path.now (Some text) ∷ passes)) }
     ensures looked { OnlyLooked (S.calls shelf.old) (S.calls shelf.new) }
 {
     let Some(text) = text_in(alloc, shelf, path)? else {
@@ -34,7 +37,52 @@ pub(crate) fn network_in<S: Shelf>(
             word: io::Error::from_raw_os_error(NOT_THERE),
         }));
     };
-    Ok(NetworkFile::from_toml(alloc, text.as_str())?)
+    let passes = passes_in(alloc, shelf, path, text.as_str())?;
+    let network = NetworkFile::from_toml(alloc, text.as_str(), &passes)?;
+    Ok(network)
+}
+
+/// The files of passes that the text of a network file names, with their texts.
+pub(crate) fn passes_in<S: Shelf>(
+    alloc: Global,
+    shelf: &mut S,
+    file: &str,
+    text: &str,
+) -> Result<Vec<PassFile>, NetworkCommandFault>
+    ensures { OnlyLooked (S.calls shelf.old) (S.calls shelf.new) }
+{
+    let named = pass_files(alloc, text)?;
+    let mut passes = Vec::new(alloc);
+    for pass in &named {
+        let read = read_pass(alloc, shelf, file, pass)?;
+        push(&mut passes, read)?;
+    }
+    Ok(passes)
+}
+
+fn read_pass<S: Shelf>(
+    alloc: Global,
+    shelf: &mut S,
+    file: &str,
+    pass: &PassFile,
+) -> Result<PassFile, NetworkCommandFault>
+    ensures { OnlyLooked (S.calls shelf.old) (S.calls shelf.new) }
+{
+    let path = path_beside(alloc, file, pass.path.as_str())?;
+    let text = text_in(alloc, shelf, path.as_str())?;
+    Ok(PassFile {
+        place: pass.place.clone()?,
+        path: pass.path.clone()?,
+        text,
+    })
+}
+
+/// A path, from the folder of a file.
+fn path_beside(alloc: Global, file: &str, path: &str) -> Result<String, AllocError> {
+    match file.rsplit_once('/') {
+        Some((folder, _name)) if !path.starts_with('/') => format!(in alloc; "{folder}/{path}"),
+        _ => String::from_str(alloc, path),
+    }
 }
 
 /// The text of a network file: `None` if the file is another, or can't be read.
@@ -80,21 +128,32 @@ pub(crate) fn text_in<S: Shelf>(
     }
 }
 
-/// The ids of a network, and the files of its stations, whose plans agree: by the ids that were there before, if any were.
+/// The text of the ids of a network, and the files of its stations, whose plans agree: by the ids that were there before, if any were.
 pub(crate) fn station_files(
     alloc: Global,
     network: &NetworkFile,
     before: &Option<String>,
-) -> Result<(NetworkIds, Vec<StationFiles>), NetworkFault>
-    ensures { IfOk result (λ files. AreStations (is_some before.now) files.1.items) }
+) -> Result<(String, Vec<StationFiles>), NetworkFault>
+    ensures { IfOk result (λ files. (text : List ℕ) → HasStations text network.now.numbers.items
+        → AreStations text (option_map string_bytes before.now) (string_bytes files.0) files.1.items) }
 {
-    let before = match before {
-        Some(text) => Some(NetworkIds::from_text(alloc, text.as_str())?),
-        None => None,
-    };
-    let ids = assign(alloc, network, before.as_ref())?;
+    let before = ids_before(alloc, before)?;
+    let (ids, text) = assign(alloc, network, before.as_ref())?;
     let stations = write(alloc, network, &ids)?;
-    Ok((ids, stations))
+    Ok((text, stations))
+}
+
+/// The ids of a text, if it is there.
+fn ids_before(alloc: Global, text: &Option<String>) -> Result<Option<NetworkIds>, NetworkFault>
+    ensures { IfOk result (λ ids. WereIds (option_map string_bytes text.now) (unwrap_or ids [])) }
+{
+    match text {
+        Some(text) => {
+            let ids = NetworkIds::from_text(alloc, text.as_str())?;
+            Ok(Some(ids))
+        }
+        None => Ok(None),
+    }
 }
 
 /// The path of the ids of a network file: `.ids` in the place of `.toml`.

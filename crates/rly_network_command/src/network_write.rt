@@ -1,19 +1,18 @@
 //! `rly network write` and `rly network draw`.
 
-ghost use Rattle.std.specs.Prelude.{◌≡◌, ◌++◌, ◌∷◌, [], Bool, IfErr, IfOk, List, OnOk, false, map, option_map, string_bytes};
+ghost use Rattle.std.specs.Prelude.{◌≡◌, ◌++◌, ◌∷◌, [], Bool, IfErr, IfOk, List, OnErr, OnOk, false, map, option_map, string_bytes};
 ghost use Rattle.std.specs.Io.KnownBytes.{Appends};
-ghost use Rattle.rly_network_command.specs.Looks.{OnlyLooked};
 ghost use Rattle.rly_network_command.specs.NetworkFiles.{TextAt, wish};
 ghost use Rattle.rly_network_command.specs.NetworkWrite.{AreWished, HasDrawn, HasDrawnNetwork, HasWritten, HasWrittenNetwork, IsNetworkRead};
 ghost use Rattle.rly_network_command.specs.NetworkWrite.{IsTold, changed_line, changed_lines, plan_look, plan_looks};
-ghost use Rattle.rly_network_folder.specs.ShelfCalls.{AllCalls, ShelfCall};
-ghost use Rattle.rly_network_folder.specs.Wanted.{AreAllPut, AreStationsPut};
+ghost use Rattle.rly_network_folder.specs.ShelfCalls.{AllCalls, OnlyLooked, ShelfCall};
+ghost use Rattle.rly_network_folder.specs.Wanted.{AreAllPut, AreSomePut, AreStationsPut, all_wanted};
 
 use crate::network_check::put;
 use crate::network_command_fault::NetworkCommandFault;
 use crate::network_file::{ids_path, network_in, station_files, text_in};
 use crate::station_wishes::{path_in, push_text, wanted_files};
-use rly_network_file::{NetworkIds, StationFiles, draw};
+use rly_network_file::{StationFiles, draw};
 use rly_network_folder::{FileShelf, PutFault, Shelf, Wanted, put_all, put_stations};
 use std::alloc::{AllocError, Global};
 use std::fs::{File, Files};
@@ -68,7 +67,7 @@ pub fn write_network<S: Shelf, R: RandomSource>(
     ensures written { IfOk result (λ it. (calls : List ShelfCall)
         × HasWritten file.now folder.now it.0.items it.1.items calls
         × AllCalls (S.calls shelf.old) (S.calls shelf.new) calls) }
-    ensures told { IfErr result (λ fault. IsTold fault (S.calls shelf.old) (S.calls shelf.new)) }
+    ensures told { IfErr result (λ fault. IsTold file.now folder.now fault (S.calls shelf.old) (S.calls shelf.new)) }
 {
     let wishes = read_wishes(alloc, shelf, file, folder)?;
     let new = put_wishes(alloc, shelf, source, &wishes)?;
@@ -97,8 +96,7 @@ fn read_wishes<S: Shelf>(
         × AllCalls (S.calls shelf.old) (S.calls shelf.new) calls) }
     ensures looked { OnlyLooked (S.calls shelf.old) (S.calls shelf.new) }
 {
-    let (path, ids, stations) = read_network(alloc, shelf, file, folder)?;
-    let text = ids.to_text(alloc)?;
+    let (path, text, stations) = read_network(alloc, shelf, file, folder)?;
     let wanted_ids = ids_wanted(alloc, path, text.as_str())?;
     let wanted = wanted_files(alloc, folder, &stations)?;
     Ok(Wishes {
@@ -117,15 +115,15 @@ fn ids_wanted(alloc: Global, path: String, text: &str) -> Result<Vec<Wanted>, Al
     Ok(wanted)
 }
 
-/// The path of the ids of a network file, its ids, and the files of its stations.
+/// The path of the ids of a network file, their text, and the files of its stations.
 fn read_network<S: Shelf>(
     alloc: Global,
     shelf: &mut S,
     file: &str,
     folder: &str,
-) -> Result<(String, NetworkIds, Vec<StationFiles>), NetworkCommandFault>
+) -> Result<(String, String, Vec<StationFiles>), NetworkCommandFault>
     ensures read { IfOk result (λ it. (calls : List ShelfCall)
-        × IsNetworkRead file.now folder.now (string_bytes it.0) it.2.items calls
+        × IsNetworkRead file.now folder.now (string_bytes it.0) (string_bytes it.1) it.2.items calls
         × AllCalls (S.calls shelf.old) (S.calls shelf.new) calls) }
     ensures looked { OnlyLooked (S.calls shelf.old) (S.calls shelf.new) }
 {
@@ -188,9 +186,12 @@ fn put_wishes<S: Shelf, R: RandomSource>(
     source: &R,
     wishes: &Wishes,
 ) -> Result<Vec<bool>, PutFault>
-    ensures { IfOk result (λ new. (ids_new : Bool) × (ids_calls own_calls : List ShelfCall)
+    ensures put { IfOk result (λ new. (ids_new : Bool) × (ids_calls own_calls : List ShelfCall)
         × AreAllPut wishes.now.ids.items ids_new ids_calls × AreStationsPut wishes.now.wanted.items new.items own_calls
         × AllCalls (S.calls shelf.old) (S.calls shelf.new) (ids_calls ++ own_calls)) }
+    ensures some { OnErr result ((calls : List ShelfCall)
+        × AreSomePut (wishes.now.ids.items ++ all_wanted wishes.now.wanted.items) calls
+        × AllCalls (S.calls shelf.old) (S.calls shelf.new) calls) }
 {
     put_all(shelf, source, &wishes.ids)?;
     put_stations(alloc, shelf, source, &wishes.wanted)

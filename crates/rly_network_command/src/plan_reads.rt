@@ -1,9 +1,10 @@
 //! The plans of `rly network check`, and the parameters of the devices that belong to them.
 
-ghost use Rattle.std.specs.Prelude.{◌≡◌, ◌==◌, IfOk, List, Some, length, map, string_bytes};
+ghost use Rattle.std.specs.Prelude.{◌≡◌, ◌≢◌, ◌==◌, IfOk, IfSome, List, Some, length, map, string_bytes};
 ghost use Rattle.std.specs.List.{before_first};
-ghost use Rattle.rly_network_command.specs.NetworkCheck.{AreRead, IsReadOf, PlanRead, look_of, station_of};
-ghost use Rattle.rly_network_folder.specs.ShelfCalls.{AllCalls, Calls, Looked, ShelfCall};
+ghost use Rattle.rly_network_command.specs.NetworkCheck.{AreDevices, AreRead, IsDeviceOf, IsReadOf, PlanRead, look_of, station_of};
+ghost use Rattle.rly_network_command.specs.NetworkCheck.{unknown_device};
+ghost use Rattle.rly_network_folder.specs.ShelfCalls.{AllCalls, Calls, Looked, OnlyLooked, ShelfCall};
 
 use crate::network_command_fault::NetworkCommandFault;
 use crate::station_wishes::push;
@@ -31,9 +32,10 @@ pub(crate) fn read_stations<S: Shelf>(
     devices: &[Params],
 ) -> Result<Vec<StationPlan>, NetworkCommandFault>
     requires { length devices.now ≡ length names.now }
-    ensures { IfOk result (λ stations. (calls : List ShelfCall)
+    ensures read { IfOk result (λ stations. (calls : List ShelfCall)
         × AreRead (map (λ s. s.now) names.now) devices.now stations.items calls
         × AllCalls (S.calls shelf.old) (S.calls shelf.new) calls) }
+    ensures looked { OnlyLooked (S.calls shelf.old) (S.calls shelf.new) }
 {
     let mut stations = Vec::new(alloc);
     for index in 0..names.len() {
@@ -54,8 +56,9 @@ fn read_station<S: Shelf>(
     name: &str,
     device: Params,
 ) -> Result<StationPlan, CommandFault>
-    ensures { IfOk result (λ station. (read : PlanRead) × IsReadOf name.now device read × (station ≡ station_of read)
+    ensures read { IfOk result (λ station. (read : PlanRead) × IsReadOf name.now device read × (station ≡ station_of read)
         × Calls (S.calls shelf.old) (S.calls shelf.new) (look_of read)) }
+    ensures looked { OnlyLooked (S.calls shelf.old) (S.calls shelf.new) }
 {
     let (path, _device) = plan_and_device(name);
     let text = plan_text(shelf, path)?;
@@ -67,7 +70,8 @@ fn read_station<S: Shelf>(
 
 /// The text of the plan at a path.
 fn plan_text<S: Shelf>(shelf: &mut S, path: &str) -> Result<String, ServeFault>
-    ensures { IfOk result (λ text. Calls (S.calls shelf.old) (S.calls shelf.new) (Looked path.now (Some (string_bytes text)))) }
+    ensures called { IfOk result (λ text. Calls (S.calls shelf.old) (S.calls shelf.new) (Looked path.now (Some (string_bytes text)))) }
+    ensures looked { OnlyLooked (S.calls shelf.old) (S.calls shelf.new) }
 {
     match shelf.look(path) {
         Ok(Some(bytes)) => text_of(bytes),
@@ -89,7 +93,8 @@ fn text_of(bytes: Vec<u8>) -> Result<String, ServeFault>
 
 /// The path of the plan in a name, and that of the device after the first `=`, if there is one.
 pub fn plan_and_device(name: &str) -> (&str, Option<&str>)
-    ensures { result.0.now ≡ before_first (λ b. b == 61) name.now }
+    ensures path { result.0.now ≡ before_first (λ b. b == 61) name.now }
+    ensures rest { IfSome result.1 (λ _. result.0.now ≢ name.now) }
 {
     match name.split_once('=') {
         Some((path, file)) => (path, Some(file)),
@@ -102,7 +107,7 @@ pub(crate) fn devices_of<H: AllocGlobal + Files<File = File>>(
     rt: &H,
     names: &[&str],
 ) -> Result<Vec<Params>, NetworkCommandFault>
-    ensures { IfOk result (λ devices. length devices.items ≡ length names.now) }
+    ensures { IfOk result (λ devices. AreDevices (map (λ s. s.now) names.now) devices.items) }
 {
     let mut devices = Vec::new(rt.alloc());
     for index in 0..names.len() {
@@ -117,7 +122,9 @@ pub(crate) fn devices_of<H: AllocGlobal + Files<File = File>>(
 fn device_of<H: AllocGlobal + Files<File = File>>(
     rt: &H,
     name: &str,
-) -> Result<Params, CommandFault> {
+) -> Result<Params, CommandFault>
+    ensures { IfOk result (λ device. IsDeviceOf name.now device) }
+{
     let (_path, device) = plan_and_device(name);
     match device {
         Some(file) => device_in(rt, file),
@@ -126,7 +133,9 @@ fn device_of<H: AllocGlobal + Files<File = File>>(
 }
 
 /// A device of which nothing is known: it has each hop and peer, and the default payload.
-fn unknown_device() -> Params {
+fn unknown_device() -> Params
+    ensures { result ≡ unknown_device }
+{
     Params {
         hops: MAX_HOPS,
         peers: MAX_PEERS,

@@ -1,24 +1,26 @@
 //! Which id each neighbour has.
 
-ghost use Rattle.std.specs.Prelude.{◌≡◌, IfOk, [], List, option_copied, true, unwrap_or};
+ghost use Rattle.std.specs.Prelude.{◌≡◌, IfOk, [], List, option_copied, Some, string_bytes, true, unwrap_or};
 ghost use Rattle.rly_network_file.specs.Ids.{are_distinct, keeps};
+ghost use Rattle.rly_network_file.specs.IdsText.{ids_of_text};
 
-use crate::distinct::{are_distinct, is_there};
+use crate::distinct::is_there;
 use crate::fault::{NetworkFault, fault_at};
-use crate::ids::{NetworkIds, StationIds};
+use crate::ids::{NetworkIds, StationIds, text_of};
 use crate::kept::keeps;
 use crate::network_file::NetworkFile;
 use std::alloc::Global;
 
-/// The ids of a network: those that there were before, and the next ones for neighbours that are new. So no id ever
-/// gets another meaning.
+/// The ids of a network, and the text that is read as them: those that there were before, and the next ones for neighbours
+/// that are new. So no id ever gets another meaning.
 pub fn assign(
     alloc: Global,
     file: &NetworkFile,
     before: Option<&NetworkIds>,
-) -> Result<NetworkIds, NetworkFault>
-    ensures kept { IfOk result (λ ids. keeps (unwrap_or (option_copied before.entry) []) ids ≡ true) }
-    ensures distinct { IfOk result (λ ids. are_distinct ids ≡ true) }
+) -> Result<(NetworkIds, String), NetworkFault>
+    ensures kept { IfOk result (λ it. keeps (unwrap_or (option_copied before.entry) []) it.0 ≡ true) }
+    ensures distinct { IfOk result (λ it. are_distinct it.0 ≡ true) }
+    ensures read { IfOk result (λ it. ids_of_text (string_bytes it.1) ≡ Some it.0) }
 {
     match before {
         Some(before) => assign_after(alloc, file, &before.stations),
@@ -30,16 +32,19 @@ fn assign_after(
     alloc: Global,
     file: &NetworkFile,
     before: &[StationIds],
-) -> Result<NetworkIds, NetworkFault>
-    ensures kept { IfOk result (λ ids. keeps before.now ids ≡ true) }
-    ensures distinct { IfOk result (λ ids. are_distinct ids ≡ true) }
+) -> Result<(NetworkIds, String), NetworkFault>
+    ensures kept { IfOk result (λ it. keeps before.now it.0 ≡ true) }
+    ensures distinct { IfOk result (λ it. are_distinct it.0 ≡ true) }
+    ensures read { IfOk result (λ it. ids_of_text (string_bytes it.1) ≡ Some it.0) }
 {
     let mut stations = Vec::new(alloc);
     push_all(alloc, &mut stations, file, before)?;
-    if !keeps(before, &stations) || !are_distinct(&stations) {
+    let text = text_of(alloc, &stations)?;
+    let ids = NetworkIds::from_text(alloc, text.as_str())?;
+    if !keeps(before, &ids.stations) {
         return Err(fault_at(alloc, "the ids", "an id would change its meaning"));
     }
-    Ok(NetworkIds { stations })
+    Ok((ids, text))
 }
 
 /// Appends the stations that had ids before, and those of the network that had none.

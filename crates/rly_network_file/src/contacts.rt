@@ -1,6 +1,7 @@
 //! The contacts of links and folders: those that have a name, and those that one table gives.
 
 use crate::fault::{NetworkFault, fault_at, fault_of_key};
+use crate::passes::{PassFile, read_passes};
 use crate::values::is_name;
 use rly_plan_syntax::{ContactDraft, read_contact};
 use std::alloc::Global;
@@ -12,7 +13,7 @@ const LAST: u64 = 4_503_599_627_370_495;
 /// Contacts in order, as a plan writes them.
 #[derive(Drop)]
 pub(crate) struct Contacts {
-    /// Their name; empty if one table alone has them.
+    /// Their name, or the path of their file; empty if one table alone has them.
     pub name: String,
     /// The array of a plan.
     pub text: String,
@@ -26,7 +27,7 @@ pub(crate) struct Contacts {
 }
 
 /// No contacts yet.
-fn none(alloc: Global, name: &str) -> Result<Contacts, NetworkFault> {
+pub(crate) fn none(alloc: Global, name: &str) -> Result<Contacts, NetworkFault> {
     Ok(Contacts {
         name: String::from_str(alloc, name)?,
         text: String::new(alloc),
@@ -37,12 +38,19 @@ fn none(alloc: Global, name: &str) -> Result<Contacts, NetworkFault> {
     })
 }
 
-/// The contacts of `[contacts]`, each with its name. The first ones last always.
-pub(crate) fn read_all(alloc: Global, document: &Table) -> Result<Vec<Contacts>, NetworkFault> {
+/// The contacts of the files of passes, and those of `[contacts]`, each with its name. The first ones last always.
+pub(crate) fn read_all(
+    alloc: Global,
+    document: &Table,
+    passes: &[PassFile],
+) -> Result<Vec<Contacts>, NetworkFault> {
     let mut always = none(alloc, "")?;
     push_contact(&mut always, 0, LAST)?;
     let mut all = Vec::new(alloc);
     all.push(always)?;
+    for file in passes {
+        all.push(read_passes(alloc, file)?)?;
+    }
     let table = match document.get("contacts") {
         Some(Value::Table(table)) => table,
         Some(_) => return Err(fault_at(alloc, "contacts", "write a table of arrays")),
@@ -77,14 +85,23 @@ fn read_one(
             None => return Err(fault_at(alloc, place.as_str(), "write two whole numbers")),
         }
     }
-    if contacts.count > 4_096 {
-        return Err(fault_at(alloc, place, "a hop has at most 4096 contacts"));
-    }
+    check_count(alloc, &contacts, place)?;
     Ok(contacts)
 }
 
+pub(crate) fn check_count(
+    alloc: Global,
+    contacts: &Contacts,
+    place: &str,
+) -> Result<(), NetworkFault> {
+    if contacts.count > 4_096 {
+        return Err(fault_at(alloc, place, "a hop has at most 4096 contacts"));
+    }
+    Ok(())
+}
+
 /// Appends a contact that is in its limits, and behind the ones before it.
-fn push_draft(
+pub(crate) fn push_draft(
     alloc: Global,
     contacts: &mut Contacts,
     contact: ContactDraft,
@@ -117,7 +134,7 @@ fn push_contact(contacts: &mut Contacts, begin: u64, end: u64) -> Result<(), Net
     Ok(())
 }
 
-/// The index of the contacts of a table: those of the name or the array at its `contacts`, or those that last always.
+/// The index of the contacts of a table: those of the name, the file or the array at its `contacts`, or those that last always.
 pub(crate) fn contacts_at(
     alloc: Global,
     all: &mut Vec<Contacts>,

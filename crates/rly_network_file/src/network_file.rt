@@ -1,17 +1,18 @@
 //! A network as its file gives it.
 
-ghost use Rattle.std.specs.Prelude.{◌≡◌, option_map, true};
+ghost use Rattle.std.specs.Prelude.{◌≡◌, option_map, true, IfOk};
 ghost use Rattle.toml.specs.Parse.{parse_document};
 ghost use Rattle.toml.specs.View.{view};
-ghost use Rattle.rly_network_file.specs.NetworkText.{is_array, is_network};
+ghost use Rattle.rly_network_file.specs.NetworkText.{HasStations, is_array, is_network};
 
 use crate::contacts::{Contacts, read_all};
 use crate::fault::NetworkFault;
 use crate::folders::{Folder, read_folders, read_names};
 use crate::links::{Link, read_links};
 use crate::names::Name;
+use crate::passes::PassFile;
 use crate::paths::{Step, read_paths};
-use crate::stations::{Station, numbers_in, read_stations};
+use crate::stations::{Station, StationNumber, numbers_in, read_stations};
 use crate::values::{check_keys, document_of};
 use rly_plan_syntax::value_at;
 use std::alloc::Global;
@@ -22,7 +23,7 @@ use toml::Value;
 #[derive(Drop)]
 pub struct NetworkFile {
     /// The numbers of its stations, in the file's order.
-    pub numbers: Vec<u16>,
+    pub numbers: Vec<StationNumber>,
     pub(crate) names: Vec<Name>,
     pub(crate) stations: Vec<Station>,
     pub(crate) contacts: Vec<Contacts>,
@@ -36,19 +37,27 @@ const KEYS: [&str; 9] = [
 ];
 
 impl NetworkFile {
-    /// Reads a network file (`docs/NETWORK.md`, "A network file"). The first fault is returned with its place.
-    pub fn from_toml(alloc: Global, text: &str) -> Result<NetworkFile, NetworkFault> {
+    /// Reads a network file (`docs/NETWORK.md`, "A network file") with the files of passes that it names. The first fault is
+    /// returned with its place.
+    pub fn from_toml(
+        alloc: Global,
+        text: &str,
+        passes: &[PassFile],
+    ) -> Result<NetworkFile, NetworkFault>
+        ensures stations { IfOk result (λ file. HasStations text.now file.numbers.items) }
+    {
         let document = document_of(alloc, text)?;
         check_keys(alloc, &document, "the top", &KEYS)?;
         let mut names = Vec::new(alloc);
         let stations = read_stations(alloc, &document, &mut names)?;
+        let numbers = numbers_in(alloc, &document)?;
         read_names(alloc, &document, &mut names)?;
-        let mut contacts = read_all(alloc, &document)?;
+        let mut contacts = read_all(alloc, &document, passes)?;
         let links = read_links(alloc, &document, &names, &stations, &mut contacts)?;
         let folders = read_folders(alloc, &document, &names, &stations, &links, &mut contacts)?;
         let steps = read_paths(alloc, &document, &names, &stations)?;
         Ok(NetworkFile {
-            numbers: numbers_in(alloc, &stations)?,
+            numbers,
             names,
             stations,
             contacts,

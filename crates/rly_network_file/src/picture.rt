@@ -1,23 +1,53 @@
 //! A picture of a network.
 
+ghost use Rattle.std.specs.Prelude.{◌≡◌, ◌++◌, ℕ, IfOk, List, OnOk, length, string_bytes};
+ghost use Rattle.rly_network_file.specs.Picture.{HasStationLines, station_line, station_lines};
+
 use crate::fault::NetworkFault;
 use crate::folders::Folder;
 use crate::links::Link;
 use crate::names::name_of;
 use crate::network_file::NetworkFile;
-use std::alloc::Global;
+use crate::stations::find;
+use std::alloc::{AllocError, Global};
 
 /// A graph of the network in the language of Graphviz: stations, applications, and links with their rate, their
 /// contacts and the destinations that are led over them.
-pub fn draw(alloc: Global, file: &NetworkFile) -> Result<String, NetworkFault> {
+pub fn draw(alloc: Global, file: &NetworkFile) -> Result<String, NetworkFault>
+    ensures stations { IfOk result (λ text. HasStationLines file.now.numbers.items (string_bytes text)) }
+{
     let mut text = String::from_str(
         alloc,
         "digraph network {\n    rankdir = LR;\n    node [shape = box, style = rounded];\n",
     )?;
-    for station in &file.stations {
-        let (number, name) = (station.number, station.name.as_str());
-        writeln!(&mut text, "    s{number} [label = \"{name}\\n{number}\"];")?;
+    draw_stations(&mut text, file)?;
+    let rest = folders_and_links(alloc, file)?;
+    text.push_str(rest.as_str())?;
+    Ok(text)
+}
+
+fn draw_stations(text: &mut String, file: &NetworkFile) -> Result<(), AllocError>
+    ensures { OnOk result ((names : List (List ℕ)) × (length names ≡ length file.now.numbers.items)
+        × (string_bytes text.new ≡ string_bytes text.old ++ station_lines file.now.numbers.items names)) }
+{
+    for number in &file.numbers {
+        let name = match find(&file.stations, number.0) {
+            Some(station) => station.name.as_str(),
+            None => "",
+        };
+        draw_station(text, number.0, name)?;
     }
+    Ok(())
+}
+
+fn draw_station(text: &mut String, number: u16, name: &str) -> Result<(), AllocError>
+    ensures { OnOk result (string_bytes text.new ≡ string_bytes text.old ++ station_line number name.now) }
+{
+    writeln!(text, "    s{number} [label = \"{name}\\n{number}\"];")
+}
+
+fn folders_and_links(alloc: Global, file: &NetworkFile) -> Result<String, NetworkFault> {
+    let mut text = String::new(alloc);
     for (index, folder) in file.folders.iter().enumerate() {
         draw_folder(&mut text, file, folder, index)?;
     }

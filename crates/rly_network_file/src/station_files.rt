@@ -41,7 +41,7 @@ pub(crate) fn files_of(
 {
     let mut files = Vec::new(alloc);
     for number in &file.numbers {
-        files.push(station_files(alloc, file, ids, *number)?)?;
+        files.push(station_files(alloc, file, ids, number.0)?)?;
     }
     Ok(files)
 }

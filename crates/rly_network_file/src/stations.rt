@@ -1,12 +1,16 @@
 //! The stations of a network file.
 
+ghost use Rattle.std.specs.Prelude.{◌≡◌, ◌≢◌, [], codes, IfOk, Some};
+ghost use Rattle.toml.specs.View.{table_view};
+ghost use Rattle.rly_network_file.specs.NetworkText.{numbers_in};
+
 use crate::fault::{NetworkFault, fault_at, fault_of_key};
+use crate::items::{Item, items_at, number_in};
 use crate::names::{Name, push_name};
-use crate::values::{
-    check_keys, flag_at, name_at, number_at, port_at, table_of, tables_at, text_at,
-};
+use crate::values::{check_keys, flag_at, name_at, number_at, table_of, tables_at, text_at};
 use rly_core::{Params, limits};
 use std::alloc::Global;
+use std::marker::Model;
 use toml::{Table, Value};
 
 /// The options of `rly format`, and where a station listens.
@@ -94,9 +98,6 @@ pub(crate) fn read_stations(
         )?;
         stations.push(station)?;
     }
-    if stations.is_empty() {
-        return Err(fault_at(alloc, "station", "write a station"));
-    }
     Ok(stations)
 }
 
@@ -153,7 +154,7 @@ fn read_station(
 ) -> Result<Station, NetworkFault> {
     let table = table_of(alloc, value, place)?;
     check_keys(alloc, table, place, &KEYS)?;
-    let number = station_number(alloc, table, place)?;
+    let number = number_in(alloc, table, place)?;
     let Some(name) = name_at(alloc, table, place, "name")? else {
         return Err(fault_of_key(alloc, place, "name", "missing; write a name"));
     };
@@ -173,18 +174,6 @@ fn read_station(
         port: read_base(alloc, table, place, port, step, number)?,
         device: read_device(alloc, table, place, device)?,
     })
-}
-
-/// The number of a station, at the key `number`.
-pub(crate) fn station_number(
-    alloc: Global,
-    table: &Table,
-    place: &str,
-) -> Result<u16, NetworkFault> {
-    match port_at(alloc, table, place, "number")? {
-        Some(number) => Ok(number),
-        None => Err(fault_of_key(alloc, place, "number", "missing; write 1 to 65535")),
-    }
 }
 
 /// The port before those of a station: its own, or the network's, and its step for each number.
@@ -271,11 +260,42 @@ pub(crate) fn find(stations: &[Station], number: u16) -> Option<&Station> {
     None
 }
 
-/// The numbers of stations.
-pub(crate) fn numbers_in(alloc: Global, stations: &[Station]) -> Result<Vec<u16>, NetworkFault> {
-    let mut numbers = Vec::new(alloc);
-    for station in stations {
-        numbers.push(station.number)?;
+/// The number of a station of a network file.
+#[derive(Drop)]
+pub struct StationNumber(pub u16);
+
+impl Model for StationNumber {
+    ghost use Rattle.std.specs.Prelude.{ℕ};
+
+    ghost Value = { ℕ };
+
+    ghost view = { λ station. station.0 };
+}
+
+impl Item for StationNumber {
+    ghost use Rattle.rly_network_file.specs.NetworkText.{number_of};
+
+    ghost shape = { number_of };
+
+    fn read(alloc: Global, value: &Value, place: &str) -> Result<StationNumber, NetworkFault> {
+        match value.as_table() {
+            Some(table) => Ok(StationNumber(number_in(alloc, table, place)?)),
+            None => Err(fault_at(alloc, place, "write a table")),
+        }
+    }
+}
+
+/// The numbers of the stations, at least one, in the file's order.
+pub(crate) fn numbers_in(
+    alloc: Global,
+    document: &Table,
+) -> Result<Vec<StationNumber>, NetworkFault>
+    ensures are { IfOk result (λ numbers. numbers_in (table_view document.now) ≡ Some numbers.items) }
+    ensures some { IfOk result (λ numbers. numbers.items ≢ []) }
+{
+    let numbers: Vec<StationNumber> = items_at(alloc, document, "station", "station")?;
+    if numbers.is_empty() {
+        return Err(fault_at(alloc, "station", "write a station"));
     }
     Ok(numbers)
 }

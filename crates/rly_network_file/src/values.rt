@@ -1,12 +1,18 @@
 //! The values at the keys of a table.
 
+ghost use Rattle.std.specs.Prelude.{◌≡◌, IfOk, Some};
+ghost use Rattle.toml.specs.Parse.{parse_document};
+ghost use Rattle.toml.specs.View.{table_view};
+
 use crate::fault::{NetworkFault, fault_at, fault_of_key};
 use rly_plan_syntax::position_after;
 use std::alloc::Global;
 use toml::{Table, Value};
 
 /// The table of a text, or the place from which on it isn't TOML.
-pub(crate) fn document_of(alloc: Global, text: &str) -> Result<Table, NetworkFault> {
+pub(crate) fn document_of(alloc: Global, text: &str) -> Result<Table, NetworkFault>
+    ensures { IfOk result (λ document. parse_document text.now ≡ Some (table_view document)) }
+{
     match toml::table_from_str(alloc, text) {
         Ok(document) => Ok(document),
         Err(error) => match error.span() {

@@ -12,9 +12,8 @@ use crate::loads::check_loads;
 use crate::network_file::NetworkFile;
 use crate::places::lines_in_file;
 use crate::station_files::{StationFiles, files_of};
-use rly_core::Refusal;
 use rly_network::{StationPlan, check};
-use rly_plan::{Neighbour, NextHop, Plan};
+use rly_plan::{Neighbour, NextHop, Plan, PlanFault};
 use std::alloc::{AllocError, Global};
 
 /// The files of each station of a network. Each plan was read again: it is that of its station by these ids, and the
@@ -64,7 +63,7 @@ fn read_one(
     ensures own { IfOk result (λ station. station.plan.station ≡ file.now.number) }
     ensures by_ids { IfOk result (λ station. is_by ids.now station ≡ true) }
 {
-    match Plan::from_toml(alloc, file.plan.as_str()) {
+    match Plan::read(alloc, file.plan.as_str()) {
         Ok(plan) => {
             check_own(alloc, ids, file, &plan)?;
             Ok(StationPlan {
@@ -72,8 +71,7 @@ fn read_one(
                 device: file.device,
             })
         }
-        Err(Refusal::OutOfMemory) => Err(NetworkFault::Memory),
-        Err(_) => Err(fault_of_plan(alloc, file)),
+        Err(fault) => Err(fault_of_plan(alloc, file, &fault)),
     }
 }
 
@@ -121,19 +119,14 @@ fn hops_in(alloc: Global, hops: &[NextHop]) -> Result<Vec<u16>, AllocError>
     Ok(numbers)
 }
 
-/// The fault of a plan that isn't one, with its place.
-fn fault_of_plan(alloc: Global, file: &StationFiles) -> NetworkFault {
+/// The fault of a plan that isn't one, with its place. Only a refusal of memory has none.
+fn fault_of_plan(alloc: Global, file: &StationFiles, fault: &PlanFault) -> NetworkFault {
     let name = file.name.as_str();
-    match Plan::read(alloc, file.plan.as_str()) {
-        Err(fault) => match fault.place {
-            Some(place) => {
-                match format!(in alloc; "station {name}: its plan would be refused at {place}\n") {
-                    Ok(line) => NetworkFault::Found(line),
-                    Err(_) => NetworkFault::Memory,
-                }
-            }
-            None => NetworkFault::Memory,
-        },
-        Ok(_) => NetworkFault::Memory,
+    let Some(place) = &fault.place else {
+        return NetworkFault::Memory;
+    };
+    match format!(in alloc; "station {name}: its plan would be refused at {place}\n") {
+        Ok(line) => NetworkFault::Found(line),
+        Err(_) => NetworkFault::Memory,
     }
 }

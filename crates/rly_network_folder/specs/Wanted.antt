@@ -2,10 +2,11 @@
 use Rattle.std.specs.Prelude.{◌≡◌, ◌⊎◌, ℕ, List, [], ◌∷◌, ◌++◌, length, Bool, false, true, not, ◌||◌, Option, Some, None}
 use Rattle.std.specs.Global.{Global, Vec}
 use Rattle.std.specs.Prelude.{String, if◌then◌else◌, map, string_bytes}
+use Rattle.std.specs.List.{flat_map, list_all}
 use Rattle.std.specs.Option.{option_map_or}
 use Rattle.std.specs.Str.{bytes_eq}
 use Rattle.hex.specs.Hex.{encode_lower}
-use Rattle.rly_network_folder.specs.ShelfCalls.{ShelfCall, Looked, Made, Replaced}
+use Rattle.rly_network_folder.specs.ShelfCalls.{ShelfCall, Looked, Made, Replaced, is_look}
 use Rattle.rly_network_folder.specs.declared.wanted.Wanted.{Wanted}
 use Rattle.rly_network_folder.specs.declared.wanted.Wanted.TheVariants.{Key, Text}
 
@@ -76,3 +77,20 @@ AreStationsPut [] (new ∷ news) calls = ⊥
 AreStationsPut (wanted ∷ stations) [] calls = ⊥
 AreStationsPut (wanted ∷ stations) (new ∷ news) calls =
     (own more : List ShelfCall) × AreAllPut wanted.items new own × AreStationsPut stations news more × (calls ≡ own ++ more)
+
+-- A put that failed: the first of these files are put, in their order, and after that files were only looked for. The
+-- first one left failed: it may be there, but not durably.
+pub record AreSomePut (wanted : List Wanted) (calls : List ShelfCall) : Type 0 where
+  pub done : List Wanted
+  pub left : List Wanted
+  pub new : Bool
+  pub own : List ShelfCall
+  pub looks : List ShelfCall
+  pub split : wanted ≡ done ++ left
+  pub put : AreAllPut done new own
+  pub only : list_all is_look looks ≡ true
+  pub all : calls ≡ own ++ looks
+
+-- the files of all stations, one after another
+abbrev pub all_wanted : List (Vec Wanted) → List Wanted
+all_wanted stations = flat_map (λ w. w.items) stations

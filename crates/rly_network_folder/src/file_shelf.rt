@@ -65,16 +65,31 @@ impl<'a, H: Files<File = File>> FileShelf<'a, H> {
 
     /// The folder of a file, which is made if it is missing, and the file's hidden name there.
     fn ready<'b>(&self, path: &'b str) -> io::Result<(&'b str, String)> {
-        let (folder, name) = match path.rsplit_once('/') {
-            Some(("", name)) => ("/", name),
-            Some((folder, name)) => (folder, name),
-            None => (".", path),
-        };
-        if !fs::exists(self.host, folder)? {
+        let (folder, name) = folder_and_name(path);
+        let parents = self.parents_of_missing(folder)?;
+        if !parents.is_empty() {
             fs::create_dir_all(self.host, folder)?;
+        }
+        for parent in &parents {
+            self.sync_folder(*parent)?;
         }
         let hidden = format!(in self.alloc; "{folder}/.{name}.new")?;
         Ok((folder, hidden))
+    }
+
+    /// The folders in which a missing folder, and those on its path that are missing too, are to be made.
+    fn parents_of_missing<'b>(&self, folder: &'b str) -> io::Result<Vec<&'b str>> {
+        let mut parents = Vec::new(self.alloc);
+        let mut missing = folder;
+        for _ in 0..folder.len() {
+            if fs::exists(self.host, missing)? {
+                return Ok(parents);
+            }
+            let (parent, _name) = folder_and_name(missing);
+            parents.push(parent)?;
+            missing = parent;
+        }
+        Ok(parents)
     }
 
     /// Writes a hidden file anew, durably.
@@ -106,6 +121,15 @@ impl<'a, H: Files<File = File>> FileShelf<'a, H> {
                 word,
             }),
         }
+    }
+}
+
+/// The folder of a path, and the name there.
+fn folder_and_name(path: &str) -> (&str, &str) {
+    match path.rsplit_once('/') {
+        Some(("", name)) => ("/", name),
+        Some((folder, name)) => (folder, name),
+        None => (".", path),
     }
 }
 

@@ -1,10 +1,10 @@
 //! Puts the wanted files on a shelf.
 
-ghost use Rattle.std.specs.Prelude.{◌≡◌, ℕ, List, [], ◌∷◌, Option, IfOk, OnOk, not, option_map};
+ghost use Rattle.std.specs.Prelude.{◌≡◌, ℕ, List, [], ◌∷◌, Option, IfOk, OnErr, OnOk, not, option_map};
 ghost use Rattle.std.specs.Prelude.{◌++◌};
-ghost use Rattle.rly_network_folder.specs.ShelfCalls.{AllCalls, Made, ShelfCall};
-ghost use Rattle.rly_network_folder.specs.Wanted.{AreAllPut, AreStationsPut, IsFirst, IsKeyFrom, IsKeyLine, IsKeyPut, IsPut, is_text};
-ghost use Rattle.rly_network_folder.specs.Wanted.{text_calls};
+ghost use Rattle.rly_network_folder.specs.ShelfCalls.{AllCalls, Made, OnlyLooked, ShelfCall};
+ghost use Rattle.rly_network_folder.specs.Wanted.{AreAllPut, AreSomePut, AreStationsPut, IsFirst, IsKeyFrom, IsKeyLine, IsKeyPut};
+ghost use Rattle.rly_network_folder.specs.Wanted.{IsPut, all_wanted, is_text, text_calls};
 
 use crate::shelf::Shelf;
 use crate::shelf_fault::PutFault;
@@ -21,7 +21,9 @@ pub fn put_stations<S: Shelf, R: RandomSource>(
     source: &R,
     stations: &[Vec<Wanted>],
 ) -> Result<Vec<bool>, PutFault>
-    ensures { IfOk result (λ new. (calls : List ShelfCall) × AreStationsPut stations.now new.items calls
+    ensures put { IfOk result (λ new. (calls : List ShelfCall) × AreStationsPut stations.now new.items calls
+        × AllCalls (S.calls shelf.old) (S.calls shelf.new) calls) }
+    ensures some { OnErr result ((calls : List ShelfCall) × AreSomePut (all_wanted stations.now) calls
         × AllCalls (S.calls shelf.old) (S.calls shelf.new) calls) }
 {
     let mut new = Vec::new(alloc);
@@ -40,7 +42,9 @@ pub fn put_all<S: Shelf, R: RandomSource>(
     source: &R,
     wanted: &[Wanted],
 ) -> Result<bool, PutFault>
-    ensures { IfOk result (λ new. (calls : List ShelfCall) × AreAllPut wanted.now new calls
+    ensures put { IfOk result (λ new. (calls : List ShelfCall) × AreAllPut wanted.now new calls
+        × AllCalls (S.calls shelf.old) (S.calls shelf.new) calls) }
+    ensures some { OnErr result ((calls : List ShelfCall) × AreSomePut wanted.now calls
         × AllCalls (S.calls shelf.old) (S.calls shelf.new) calls) }
 {
     let mut new = false;
@@ -57,8 +61,9 @@ fn put_one<S: Shelf, R: RandomSource>(
     source: &R,
     wanted: &Wanted,
 ) -> Result<bool, PutFault>
-    ensures { IfOk result (λ new. (calls : List ShelfCall) × IsPut wanted.now new calls
+    ensures put { IfOk result (λ new. (calls : List ShelfCall) × IsPut wanted.now new calls
         × AllCalls (S.calls shelf.old) (S.calls shelf.new) calls) }
+    ensures looked { OnErr result (OnlyLooked (S.calls shelf.old) (S.calls shelf.new)) }
 {
     match wanted {
         Wanted::Text { path, text } => put_text(shelf, path.as_str(), text.as_str()),
@@ -68,8 +73,9 @@ fn put_one<S: Shelf, R: RandomSource>(
 
 /// Puts a text, unless it is there already.
 fn put_text<S: Shelf>(shelf: &mut S, path: &str, text: &str) -> Result<bool, PutFault>
-    ensures { IfOk result (λ new. (found : Option (List ℕ)) × (new ≡ not (is_text text.now found))
+    ensures put { IfOk result (λ new. (found : Option (List ℕ)) × (new ≡ not (is_text text.now found))
         × AllCalls (S.calls shelf.old) (S.calls shelf.new) (text_calls path.now text.now found)) }
+    ensures looked { OnErr result (OnlyLooked (S.calls shelf.old) (S.calls shelf.new)) }
 {
     let found = shelf.look(path)?;
     if is_text(text, &found) {
@@ -96,8 +102,9 @@ fn put_key<S: Shelf, R: RandomSource>(
     path: &str,
     others: &[String],
 ) -> Result<bool, PutFault>
-    ensures { IfOk result (λ new. (calls : List ShelfCall) × IsKeyPut path.now others.now new calls
+    ensures put { IfOk result (λ new. (calls : List ShelfCall) × IsKeyPut path.now others.now new calls
         × AllCalls (S.calls shelf.old) (S.calls shelf.new) calls) }
+    ensures looked { OnErr result (OnlyLooked (S.calls shelf.old) (S.calls shelf.new)) }
 {
     let found = shelf.look(path)?;
     if let Some(_there) = found {
@@ -114,9 +121,10 @@ fn make_key<S: Shelf, R: RandomSource>(
     path: &str,
     others: &[String],
 ) -> Result<(), PutFault>
-    ensures { OnOk result ((far : Option (List ℕ)) × (key : List ℕ) × (looks : List ShelfCall) × IsKeyFrom far key
+    ensures made { OnOk result ((far : Option (List ℕ)) × (key : List ℕ) × (looks : List ShelfCall) × IsKeyFrom far key
         × IsFirst others.now far looks
         × AllCalls (S.calls shelf.old) (S.calls shelf.new) (looks ++ Made path.now key ∷ [])) }
+    ensures looked { OnErr result (OnlyLooked (S.calls shelf.old) (S.calls shelf.new)) }
 {
     if let Some(key) = first_key(shelf, others)? {
         shelf.make(path, &key)?;
@@ -129,9 +137,10 @@ fn make_key<S: Shelf, R: RandomSource>(
 
 /// The key at the first of these paths that has one.
 fn first_key<S: Shelf>(shelf: &mut S, others: &[String]) -> Result<Option<Vec<u8>>, PutFault>
-    ensures { IfOk result (λ found. (looks : List ShelfCall)
+    ensures first { IfOk result (λ found. (looks : List ShelfCall)
         × IsFirst others.now (option_map (λ v. v.items) found) looks
         × AllCalls (S.calls shelf.old) (S.calls shelf.new) looks) }
+    ensures looked { OnlyLooked (S.calls shelf.old) (S.calls shelf.new) }
 {
     for other in others {
         if let Some(key) = shelf.look(other.as_str())? {

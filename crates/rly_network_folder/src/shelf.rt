@@ -14,11 +14,13 @@ pub trait Shelf {
             Calls (calls self.old) (calls self.new) (Looked path.now (option_map (λ v. v.items) found))) }
         ensures failed { OnErr result (calls self.new ≡ calls self.old) };
 
-    /// Puts a file in the place of the one that may be there, in one step, durably.
+    /// Puts a file in the place of the one that may be there, in one step, durably. After an `Err` it may be there.
     fn replace(&mut self, path: &str, bytes: &[u8]) -> Result<(), ShelfFault>
-        ensures called { OnOk result (Calls (calls self.old) (calls self.new) (Replaced path.now bytes.now)) };
+        ensures called { OnOk result (Calls (calls self.old) (calls self.new) (Replaced path.now bytes.now)) }
+        ensures failed { OnErr result (calls self.new ≡ calls self.old) };
 
     /// Makes a file that only its owner may read, durably. `Err`, and the file is as it was, if there is one.
     fn make(&mut self, path: &str, bytes: &[u8]) -> Result<(), ShelfFault>
-        ensures called { OnOk result (Calls (calls self.old) (calls self.new) (Made path.now bytes.now)) };
+        ensures called { OnOk result (Calls (calls self.old) (calls self.new) (Made path.now bytes.now)) }
+        ensures failed { OnErr result (calls self.new ≡ calls self.old) };
 }

@@ -172,10 +172,9 @@ load = 1201",
 
 /// The plans that are written for a network, one after another.
 fn plans(alloc: Global, text: &str, ids: &str) -> Result<String, NetworkFault> {
-    let file = NetworkFile::from_toml(alloc, text)?;
+    let file = NetworkFile::from_toml(alloc, text, &[])?;
     let before = NetworkIds::from_text(alloc, ids)?;
-    let ids = assign(alloc, &file, Some(&before))?;
-    let mut plans = ids.to_text(alloc)?;
+    let (ids, mut plans) = assign(alloc, &file, Some(&before))?;
     for station in &write(alloc, &file, &ids)? {
         plans.push_str(station.plan.as_str())?;
     }

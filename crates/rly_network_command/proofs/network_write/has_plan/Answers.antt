@@ -1,6 +1,6 @@
 use Rattle.std.proofs.lemmas.List.{map-append}
-use Rattle.rly_network_command.proofs.LookLemmas.{looked_none, looked_once, looked_plans, looked_then}
-use Rattle.rly_network_folder.proofs.Puts.{calls_then, one_taken}
+use Rattle.rly_network_command.proofs.LookLemmas.{looked_plans}
+use Rattle.rly_network_folder.proofs.Puts.{calls_then, looked_none, looked_once, looked_then, one_taken}
 use Rattle.rly_network_command.proofs.network_write.has_plan.Goals as goal
 
 pub loop-station-preserved : goal.loop-station-preserved

@@ -1,7 +1,6 @@
-use Rattle.std.proofs.Common.{◌∷◌, Some, option_map, refl, string_bytes}
+use Rattle.std.proofs.Common.{◌∷◌, ◌++◌, Some, option_map, refl, string_bytes}
 use Rattle.rly_network_command.specs.NetworkWrite.{plan_looks}
-use Rattle.rly_network_command.proofs.LookLemmas.{looked_then, some_mapped}
-use Rattle.rly_network_folder.proofs.Puts.{calls_then}
+use Rattle.rly_network_folder.proofs.Puts.{calls_then, looked_then}
 use Rattle.rly_network_folder.specs.ShelfCalls.{Looked}
 use Rattle.rly_network_command.proofs.network_write.read_network.Goals as goal
 
@@ -24,15 +23,17 @@ returns-clause-read g c =
     let text = c.in_ok-network.ensures.called in
     let before = rw c.as_str.ensures.value at c.in_ok-before.ensures.called in
     let plans = rw c.deref.ensures.value at c.in_ok-refuse_lost_ids.ensures.none in
-    let were = option_map string_bytes c.in_ok-before.before in (
-      Looked c.args.file.now (Some text.0) ∷ Looked (string_bytes c.in_ok-path.path) were
-          ∷ plan_looks were c.args.folder.now c.in_ok-ids.stations.items,
+    let were = option_map string_bytes c.in_ok-before.before in
+    let looks = Looked c.args.file.now (Some text.0) ∷ text.1 in (
+      looks ++ (Looked (string_bytes c.in_ok-path.path) were ∷ plan_looks were c.args.folder.now c.in_ok-ids.stations.items),
       record {
         text = text.0;
         before = were;
-        are = rw (some_mapped string_bytes c.in_ok-before.before) c.in_ok-ids.ensures;
+        passes = text.1;
+        only = text.3;
+        are = c.in_ok-ids.ensures text.0 text.2;
         beside = c.in_ok-path.ensures;
         looked = refl;
       },
-      calls_then _ _ _ _ _ (calls_then _ _ _ _ _ text.1 before) plans,
+      calls_then _ _ _ looks _ text.4 (calls_then _ _ _ _ _ before plans),
     )

@@ -7,9 +7,9 @@ returns-clause-wished g c =
       read.0,
       record {
         path = string_bytes c.in_ok-path.path;
-        ids_text = c.as_str.result.now;
+        ids_text = string_bytes c.in_ok-path.text;
         read = read.1;
-        kept = c.in_ok-wanted_ids.ensures;
+        kept = rw c.as_str.ensures.value at c.in_ok-wanted_ids.ensures;
         each = rw c.deref.ensures.value at c.in_ok-wanted.ensures;
       },
       read.2,

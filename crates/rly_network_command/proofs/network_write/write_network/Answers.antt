@@ -6,7 +6,7 @@ use Rattle.rly_network_command.proofs.network_write.write_network.Goals as goal
 pub returns-clause-written : goal.returns-clause-written
 returns-clause-written g c =
     let read = c.in_ok-wishes.ensures.wished in
-    let put = c.in_ok-new.ensures in (
+    let put = c.in_ok-new.ensures.put in (
       read.0 ++ (put.1 ++ put.2),
       record {
         ids = c.in_ok-wishes.wishes.ids.items;
@@ -24,4 +24,7 @@ returns-clause-written g c =
     )
 
 pub returns-in_err-wishes-clause-told : goal.returns-in_err-wishes-clause-told
-returns-in_err-wishes-clause-told g c = told_at c.from_residual.result _ _ c.read_wishes.ensures.looked
+returns-in_err-wishes-clause-told g c = told_at _ _ c.from_residual.result _ _ c.read_wishes.ensures.looked
+
+pub returns-in_err-new-clause-told : goal.returns-in_err-new-clause-told
+returns-in_err-new-clause-told g c = ?
