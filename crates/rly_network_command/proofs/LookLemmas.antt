@@ -2,7 +2,7 @@
 use Rattle.std.proofs.Common.{◌≡◌, ℕ, true, List, [], ◌∷◌, ◌++◌, Err, IfErr, None, Ok, Option, Result, inl, map, refl}
 use Rattle.std.specs.List.{list_all}
 use Rattle.rly_network_command.specs.NetworkCheck.{IsQuiet}
-use Rattle.rly_network_command.specs.NetworkWrite.{IsTold, plan_look}
+use Rattle.rly_network_command.specs.NetworkWrite.{IsOfPut, IsTold, MayHaveBegun, plan_look}
 use Rattle.rly_network_command.specs.declared.network_command_fault.NetworkCommandFault.{NetworkCommandFault}
 use Rattle.rly_network_command.specs.declared.network_command_fault.NetworkCommandFault.TheVariants.{File, Found, NoIds, NotText, Plan, Put, Text}
 use Rattle.rly_network_file.specs.declared.station_files.StationFiles.{StationFiles}
@@ -30,6 +30,12 @@ pub told_at : {T : Type 0} (file folder : List ℕ) (r : Result T NetworkCommand
     → IfErr r (λ fault. IsTold file folder fault old new)
 told_at file folder (Ok it) old new looked = tt
 told_at file folder (Err fault) old new looked = told_of file folder fault old new looked
+
+-- nor is more said of a put that failed
+pub told_begun : {T : Type 0} (r : Result T NetworkCommandFault) (file folder : List ℕ) (old new : Option (List ShelfCall))
+    (fault : NetworkCommandFault) → IsOfPut fault → r ≡ Err fault → MayHaveBegun file folder old new
+    → IfErr r (λ fault. IsTold file folder fault old new)
+told_begun r file folder old new fault gives failed begun = rw failed (gives file folder old new begun)
 
 -- and nothing printed
 quiet_of : (fault : NetworkCommandFault) (old new : Option (List ℕ)) → new ≡ old → IsQuiet fault old new

@@ -1,7 +1,7 @@
 -- Files of which some are put, among others.
-use Rattle.std.proofs.Common.{◌≡◌, ◌∙◌, Bool, false, true, List, [], ◌∷◌, ◌++◌, Err, Ok, OnErr, Result, ap, append_assoc, refl, sym}
+use Rattle.std.proofs.Common.{◌≡◌, ◌∙◌, Bool, false, true, List, [], ◌∷◌, ◌++◌, Err, Ok, OnErr, Option, Result, ap, append_assoc, refl, sym}
 use Rattle.std.specs.Prelude.{◌||◌}
-use Rattle.rly_network_folder.specs.ShelfCalls.{ShelfCall}
+use Rattle.rly_network_folder.specs.ShelfCalls.{AllCalls, ShelfCall}
 use Rattle.rly_network_folder.specs.Wanted.{AreAllPut, AreSomePut}
 use Rattle.rly_network_folder.specs.declared.wanted.Wanted.{Wanted}
 
@@ -51,3 +51,9 @@ some_back a b n c d all s = record {
 pub on_err_map : {T E P Q : Type 0} (r : Result T E) → (P → Q) → OnErr r P → OnErr r Q
 on_err_map (Ok it) f p = tt
 on_err_map (Err fault) f p = f p
+
+-- the same on an error: some are put of the first files, among others
+pub front_on : {T E : Type 0} (r : Result T E) (a b : List Wanted) (old new : Option (List ShelfCall)) (calls : List ShelfCall) → AreSomePut a calls
+    → AllCalls old new calls → OnErr r ((calls : List ShelfCall) × AreSomePut (a ++ b) calls × AllCalls old new calls)
+front_on (Ok it) a b old new calls some called = tt
+front_on (Err fault) a b old new calls some called = (calls, some_front a b calls some, called)

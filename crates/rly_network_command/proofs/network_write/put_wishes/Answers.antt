@@ -1,13 +1,13 @@
 use Rattle.std.proofs.Common.{◌++◌, subst}
-use Rattle.rly_network_folder.proofs.Puts.{calls_then, on_err}
+use Rattle.rly_network_folder.proofs.Puts.{calls_then}
 use Rattle.rly_network_folder.specs.Wanted.{AreAllPut, AreSomePut, all_wanted}
-use Rattle.rly_network_command.proofs.PutLemmas.{on_err_map, some_back, some_front}
+use Rattle.rly_network_command.proofs.PutLemmas.{front_on, on_err_map, some_back}
 use Rattle.rly_network_command.proofs.network_write.put_wishes.Goals as goal
 
 pub returns-in_err-put_all-clause-some : goal.returns-in_err-put_all-clause-some
 returns-in_err-put_all-clause-some g c =
     let own = c.in_err-put_all.ensures.some in
-    on_err _ (own.0, some_front _ _ own.0 (subst (λ l. AreSomePut l own.0) c.deref.ensures.value own.1), own.2)
+    front_on _ _ _ _ _ own.0 (subst (λ l. AreSomePut l own.0) c.deref.ensures.value own.1) own.2
 
 pub returns-clause-some : goal.returns-clause-some
 returns-clause-some g c =
