@@ -16,8 +16,7 @@ const GREATEST: u64 = 1_099_511_627_775;
 /// The last number of 64 bits.
 const LAST: u64 = 18_446_744_073_709_551_615;
 
-/// What a core is told: a turn while a contact is open, or while none is; a window's first number and the one after its last;
-/// the number of a Pick, of a Fetch with its limit, of a custody of the hop's station; and what has no number.
+/// What a core is told: a turn with or without a contact, a window's two numbers, the number of an answer, or none.
 #[derive(Clone, Copy)]
 enum Told {
     Open,
@@ -102,8 +101,7 @@ fn action(named: Named, number: u64, limit: u64) -> Option<OutAction<&'static [u
     }
 }
 
-/// What a script shows, a window, and the first number of the flight with the one after the last, 0 and 0 for a core that
-/// isn't ready; and the actions of the core on events, in order.
+/// What a script shows, a window, the flight from its first number to the one after its last (0 and 0: not ready), and actions.
 type Script = (&'static str, u64, [u64; 2], &'static [Row]);
 
 const SCRIPTS: [Script; 26] = [
