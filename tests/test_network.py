@@ -294,7 +294,7 @@ PASSES = """# Two passes of a satellite.
 hop,begin,end,where
 
 2,2027-03-01T06:00:00Z,2027-03-01T07:10:00+01:00,high
-2, 1803924000000000 ,2027-03-01T18:10:00Z,low
+2, 1803924000000000 ,"2027-03-01T18:10:00Z",low
 """
 AS_CONTACT = ": a contact is [from, to] in microseconds since the Unix epoch, from before to, below 2^52"
 AS_TIME = ": write times with Z or an offset, or microseconds since the Unix epoch"
@@ -307,7 +307,7 @@ IN_PASSES = [
     ("a pass too late for a plan", "2027-03-01T18:10:00Z", "4503599627370496", f":5{AS_CONTACT}"),
     ("a pass before 1970", "2027-03-01T06:00:00Z", "-1", f":4{AS_CONTACT}"),
     ("passes that overlap", "1803924000000000", "1803881399999999", IN_ORDER),
-    ("passes out of order", " 1803924000000000 ,2027-03-01T18:10:00Z", "1,2", IN_ORDER),
+    ("passes out of order", ' 1803924000000000 ,"2027-03-01T18:10:00Z"', "1,2", IN_ORDER),
     ("no number", "1803924000000000", "soon", f":5{AS_TIME}"),
     ("a number with a fraction", "1803924000000000", "1803924000000000.5", f":5{AS_TIME}"),
     ("an empty cell", " 1803924000000000 ", "", f":5{AS_TIME}"),

@@ -3,6 +3,7 @@
 use crate::contacts::{Contacts, check_count, none, push_draft};
 use crate::fault::{NetworkFault, fault_at};
 use crate::values::{is_name, is_plain};
+use csv::{ReaderBuilder, StringRecord, Trim};
 use jiff::Timestamp;
 use rly_plan_syntax::ContactDraft;
 use std::alloc::{AllocError, Global};
@@ -90,7 +91,7 @@ pub(crate) fn read_passes(alloc: Global, file: &PassFile) -> Result<Contacts, Ne
     };
     for (index, line) in text.as_str().lines().enumerate() {
         let place = format!(in alloc; "{place}: {path}:{}", index.saturating_add(1))?;
-        passes.push_line(alloc, line.trim(), place.as_str())?;
+        passes.push_line(alloc, line, place.as_str())?;
     }
     if passes.contacts.count == 0 {
         return Err(fault_at(alloc, whole.as_str(), "no pass follows"));
@@ -123,10 +124,11 @@ impl Passes {
         if line.is_empty() || line.starts_with('#') {
             return Ok(());
         }
+        let row = row_of(alloc, line)?;
         match self.columns {
-            Some(columns) => self.push_row(alloc, columns, line, place),
+            Some(columns) => self.push_row(alloc, columns, &row, place),
             None => {
-                self.columns = Some(columns_of(alloc, line, place)?);
+                self.columns = Some(columns_of(alloc, &row, place)?);
                 Ok(())
             }
         }
@@ -136,17 +138,17 @@ impl Passes {
         &mut self,
         alloc: Global,
         columns: Columns,
-        line: &str,
+        row: &StringRecord,
         place: &str,
     ) -> Result<(), NetworkFault> {
-        if line.split(',').count() != columns.count {
+        if row.len() != columns.count {
             return Err(fault_at(alloc, place, "write a cell for each column"));
         }
         if let Some(index) = columns.hop {
-            self.check_hop(alloc, cell_of(line, index), place)?;
+            self.check_hop(alloc, cell_of(row, index), place)?;
         }
-        let begin = moment_of(cell_of(line, columns.begin));
-        let end = moment_of(cell_of(line, columns.end));
+        let begin = moment_of(cell_of(row, columns.begin));
+        let end = moment_of(cell_of(row, columns.end));
         match (begin, end) {
             (Some(begin), Some(end)) => {
                 push_draft(
@@ -175,33 +177,44 @@ impl Passes {
     }
 }
 
-fn columns_of(alloc: Global, line: &str, place: &str) -> Result<Columns, NetworkFault> {
-    match (column_of(line, "begin"), column_of(line, "end")) {
+/// The cells of a line, without the spaces around them.
+fn row_of(alloc: Global, line: &str) -> Result<StringRecord, NetworkFault> {
+    let mut reader = ReaderBuilder::new()
+        .has_headers(false)
+        .trim(Trim::All)
+        .from_reader(alloc, line.as_bytes());
+    let mut row = StringRecord::new(alloc);
+    // Of a line in memory, the first record, only memory may be refused.
+    match reader.read_record(&mut row) {
+        Ok(_) => Ok(row),
+        Err(_) => Err(NetworkFault::Memory),
+    }
+}
+
+fn columns_of(alloc: Global, row: &StringRecord, place: &str) -> Result<Columns, NetworkFault> {
+    match (column_of(row, "begin"), column_of(row, "end")) {
         (Some(begin), Some(end)) => Ok(Columns {
-            hop: column_of(line, "hop"),
+            hop: column_of(row, "hop"),
             begin,
             end,
-            count: line.split(',').count(),
+            count: row.len(),
         }),
         _ => Err(fault_at(alloc, place, "name the columns begin and end")),
     }
 }
 
 /// The index of the column of a name.
-fn column_of(line: &str, name: &str) -> Option<usize> {
-    for (index, cell) in line.split(',').enumerate() {
-        if cell.trim() == name {
+fn column_of(row: &StringRecord, name: &str) -> Option<usize> {
+    for index in 0..row.len() {
+        if cell_of(row, index) == name {
             return Some(index);
         }
     }
     None
 }
 
-fn cell_of(line: &str, index: usize) -> &str {
-    match line.split(',').nth(index) {
-        Some(cell) => cell.trim(),
-        None => "",
-    }
+fn cell_of(row: &StringRecord, index: usize) -> &str {
+    row.get(index).unwrap_or("")
 }
 
 /// The microseconds since the Unix epoch that a cell means: a whole number, or a time of ISO 8601 with Z or an offset.
