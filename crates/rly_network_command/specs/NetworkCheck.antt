@@ -4,6 +4,7 @@ use Rattle.std.specs.Io.KnownBytes.{Appends}
 use Rattle.std.specs.List.{All, before_first, list_all}
 use Rattle.toml.specs.Parse.{parse_document}
 use Rattle.rly_core.specs.declared.limits.TheConstants.{MAX_HOPS, MAX_PEERS}
+use Rattle.rly_core.specs.Limits.{default_params}
 use Rattle.rly_core.specs.declared.params.Params.{Params}
 use Rattle.rly_network.specs.Check.{disagreements}
 use Rattle.rly_network.specs.Texts.{disagreement_lines}
@@ -31,17 +32,7 @@ plan_path name = before_first (λ b. b == 61) name
 -- A device of which nothing is known has each hop and peer, and otherwise the defaults. It is that of a name without a `=`; of another
 -- name, the one whose parameters its file has.
 abbrev pub unknown_device : Params
-unknown_device = record {
-  hops = MAX_HOPS;
-  peers = MAX_PEERS;
-  window = 8;
-  items = 1024;
-  bytes = 1048576;
-  maxpacket = 1500;
-  target = 5000;
-  interval = 100000;
-  payload = 1200;
-}
+unknown_device = record default_params { hops = MAX_HOPS; peers = MAX_PEERS }
 
 abbrev pub IsDeviceOf : (name : List ℕ) → Params → Type 0
 IsDeviceOf name device = plan_path name ≡ name → device ≡ unknown_device
