@@ -1,5 +1,5 @@
 -- Looks after looks.
-use Rattle.std.proofs.Common.{◌≡◌, ℕ, true, List, [], ◌∷◌, ◌++◌, Err, IfErr, None, Ok, Option, Result, inl, map, refl}
+use Rattle.std.proofs.Common.{◌≡◌, ℕ, true, List, [], ◌∷◌, Err, IfErr, Ok, Option, Result, inl, map, refl}
 use Rattle.std.specs.List.{list_all}
 use Rattle.rly_network_command.specs.NetworkCheck.{IsQuiet}
 use Rattle.rly_network_command.specs.NetworkWrite.{IsOfPut, IsTold, MayHaveBegun, plan_look}

@@ -1,4 +1,4 @@
-use Rattle.std.proofs.Common.{[], ◌∷◌, ◌++◌, Some, inl, inr, refl, string_bytes}
+use Rattle.std.proofs.Common.{◌∷◌, ◌++◌, Some, inl, inr, refl, string_bytes}
 use Rattle.rly_network_folder.proofs.Puts.{calls_then, looked_then}
 use Rattle.rly_network_folder.specs.ShelfCalls.{Looked}
 use Rattle.rly_network_command.proofs.network_check.check_network.Goals as goal
